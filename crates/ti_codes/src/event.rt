@@ -1,0 +1,26 @@
+/// The events (`jvmtiEvent`), by their numbers.
+#[derive(Clone, Copy)]
+pub enum EventKind {
+    VMInit = 50,
+    VMDeath = 51,
+    ThreadStart = 52,
+    ThreadEnd = 53,
+    ClassFileLoadHook = 54,
+    ClassLoad = 55,
+    ClassPrepare = 56,
+    VMStart = 57,
+    Exception = 58,
+    ExceptionCatch = 59,
+    SingleStep = 60,
+    FramePop = 61,
+    Breakpoint = 62,
+    FieldAccess = 63,
+    FieldModification = 64,
+    MethodEntry = 65,
+    MethodExit = 66,
+    MonitorWait = 73,
+    MonitorWaited = 74,
+    MonitorContendedEnter = 75,
+    MonitorContendedEntered = 76,
+    VMObjectAlloc = 84,
+}
