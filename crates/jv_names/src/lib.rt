@@ -1,0 +1,2 @@
+//! Texts and names of the class-file format.
+#![tactic(auto)]
