@@ -1,5 +1,5 @@
 -- Instructions: JVM specification 6.5. A code is the list of its instructions, each with its offset.
-use Rattle.std.specs.Prelude.{ℕ, zero, suc, ◌+◌, ◌-◌, ◌*◌, List, [], ◌∷◌, length, get_or, Option, Some, None, option_map, find, Bool, true, false, ◌==◌, ◌&&◌, nat_le, if◌then◌else◌, ℤ, pos, ◌-ℤ◌}
+use Rattle.std.specs.Prelude.{◌≡◌, ℕ, zero, suc, ◌+◌, ◌-◌, ◌*◌, List, [], ◌∷◌, length, get_or, Option, Some, None, option_map, find, Bool, true, false, ◌==◌, ◌&&◌, nat_le, if◌then◌else◌, ℤ, pos, ◌-ℤ◌}
 use Rattle.ti_ids.specs.Maybe.{◌>>=◌}
 use Rattle.first_form.specs.declared.Instr.{Instr}
 use Rattle.first_form.specs.declared.Instr.TheVariants.{IntConst, IntArith, GetStatic, InvokeVirtual, Return}
@@ -59,6 +59,14 @@ out_entry = 13
 
 abbrev pub println_entry : ℕ
 println_entry = 19
+
+-- an instruction names an entry that it may
+abbrev pub NamesKnown : Instr → Type 0
+NamesKnown (IntConst n) = Unit {0}
+NamesKnown (IntArith op) = Unit {0}
+NamesKnown (GetStatic n) = n ≡ out_entry
+NamesKnown (InvokeVirtual n) = n ≡ println_entry
+NamesKnown Return = Unit {0}
 
 -- the stack after an instruction that finds its operands and names what it may
 abbrev pub kinds_after : Instr → List Kind → Option (List Kind)
