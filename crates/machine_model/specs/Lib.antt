@@ -1,0 +1,15 @@
+pub use Rattle.ti_ids.specs.Maybe
+pub use Rattle.ti_ids.specs.Actors
+pub use Rattle.jv_names.specs.Names
+pub use Rattle.first_form.specs.ClassFiles
+pub use Rattle.first_form.specs.Instructions
+pub use Rattle.first_form.specs.Methods
+pub use Rattle.first_form.specs.Reading
+pub mod Jobs
+pub mod Core
+pub mod Trace
+pub mod Rules
+pub mod Effects
+pub mod Changes
+pub mod Replay
+pub mod Picks
