@@ -1,4 +1,4 @@
--- Class files: JVM specification 4.1 to 4.7. A tree, the one way in which it is spelled, and what its entries name.
+-- Class files: JVM specification 4.1 to 4.7. A tree, the one way in which it is spelled, and what its entries name. So far texts are ASCII, and code has no handlers and no attributes.
 use Rattle.std.specs.Prelude.{◌≡◌, ℕ, zero, suc, ◌+◌, ◌^◌, List, [], ◌∷◌, ◌++◌, length, slice_get, Option, Some, None, Bool, true, not, ◌&&◌, nat_lt, codes, flat_map}
 use Rattle.std.specs.Int.{w16, w32, to_be_bytes}
 use Rattle.std.specs.List.{list_all}

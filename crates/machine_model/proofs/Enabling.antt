@@ -8,7 +8,7 @@ use Rattle.ti_ids.specs.declared.actor.End.{End}
 use Rattle.ti_ids.specs.declared.actor.End.TheVariants as ends
 use Rattle.ti_ids.specs.Actors.{same_actor}
 use Rattle.machine_model.specs.Jobs.{Job}
-use Rattle.machine_model.specs.Rules.{State, actors, enabled, end_of, is_ready, is_dead, is_logged_out}
+use Rattle.machine_model.specs.Rules.{State, actors, is_enabled, end, is_ready, is_dead, is_logged_out}
 use Rattle.machine_model.specs.Picks.{behind, up_to, round, pick, next_actor}
 
 abbrev pub Pick : Type 0
@@ -59,12 +59,12 @@ some_row true p r e = refl
 some_row false p (Some a) e = refl
 some_row false p None e = absurd cc
 
-pub pick_some : (job : Job) (s : State) (c : Actor) (m : ℕ) → end_of job s ≡ None → is_some (pick job s c m) ≡ true
+pub pick_some : (job : Job) (s : State) (c : Actor) (m : ℕ) → end job s ≡ None → is_some (pick job s c m) ≡ true
 pick_some job s c m e =
     let ready : list_any (is_ready job s.core) (actors job s.core) ≡ true = last_none (is_dead s.core.phase) (leb job.limits.steps s.steps) (is_logged_out job s) (leb job.limits.output (length s.core.output)) _ ends.Dead ends.StepLimit ends.LineLimit ends.OutputLimit ends.Stuck e in
-    let same : list_any (enabled job s) (actors job s.core) ≡ list_any (is_ready job s.core) (actors job s.core) =
-    any_same (enabled job s) (is_ready job s.core) (actors job s.core) (λ a. ap (λ (r : Option End). is_none r && is_ready job s.core a) e) in
-    some_row (nat_lt m job.limits.slice && enabled job s c) (c, m) (next_actor job s c) (find_some (enabled job s) (round c (actors job s.core)) (any_round (enabled job s) c (actors job s.core) ∙ same ∙ ready))
+    let same : list_any (is_enabled job s) (actors job s.core) ≡ list_any (is_ready job s.core) (actors job s.core) =
+    any_same (is_enabled job s) (is_ready job s.core) (actors job s.core) (λ a. ap (λ (r : Option End). is_none r && is_ready job s.core a) e) in
+    some_row (nat_lt m job.limits.slice && is_enabled job s c) (c, m) (next_actor job s c) (find_some (is_enabled job s) (round c (actors job s.core)) (any_round (is_enabled job s) c (actors job s.core) ∙ same ∙ ready))
 
 -- ---- a picked actor is enabled
 
@@ -91,8 +91,8 @@ enabled_of p a c m xs =
       | false ↦ λ is. found_enabled p (find p xs) (find_true p xs)
     ] refl
 
-pub pick_enabled : (job : Job) (s : State) (c : Actor) (m : ℕ) → IfSome (pick job s c m) (λ q. enabled job s q.0 ≡ true)
-pick_enabled job s c m = enabled_of (enabled job s) (nat_lt m job.limits.slice) c m (round c (actors job s.core))
+pub pick_enabled : (job : Job) (s : State) (c : Actor) (m : ℕ) → IfSome (pick job s c m) (λ q. is_enabled job s q.0 ≡ true)
+pick_enabled job s c m = enabled_of (is_enabled job s) (nat_lt m job.limits.slice) c m (round c (actors job s.core))
 
 -- ---- how many steps in a row
 
@@ -105,4 +105,4 @@ row_of true c m r = omega arith
 row_of false c m r = found_row r m
 
 pub pick_row : (job : Job) (s : State) (c : Actor) (m : ℕ) → IfSome (pick job s c m) (λ p. p.1 ≤ m)
-pick_row job s c m = row_of (nat_lt m job.limits.slice && enabled job s c) c m (next_actor job s c)
+pick_row job s c m = row_of (nat_lt m job.limits.slice && is_enabled job s c) c m (next_actor job s c)

@@ -19,7 +19,7 @@ use Rattle.first_form.specs.ClassFiles.{ClassFile, Reference}
 use Rattle.machine_model.specs.Jobs.{Job, file_of}
 use Rattle.machine_model.specs.Core as core
 use Rattle.machine_model.specs.Core.{Core, JavaFrame, Frame, Java, Init, Object, Fields, Elements, Static, with_thread, with_state}
-use Rattle.machine_model.specs.Trace.{Place, Returned, VMStart, VMInit, VMDeath, ThreadStart, ThreadEnd, ClassLoad, ClassPrepare, MethodEntry, SingleStep, MethodExit, FramePop, VMObjectAlloc, Record, Started, Inited, Died, Loaded, Raised, Entry, tree_at, code_in}
+use Rattle.machine_model.specs.Trace.{Place, Returned, VMStart, VMInit, VMDeath, ThreadStart, ThreadEnd, ClassLoad, ClassPrepare, MethodEntry, SingleStep, MethodExit, FramePop, VMObjectAlloc, Record, Started, Inited, Died, Loaded, Raised, Entry, tree_at, code}
 use Rattle.machine_model.specs.Effects as effects
 use Rattle.machine_model.specs.Effects.{Effect, effect, system_out}
 use Rattle.machine_model.specs.Rules.{State}
@@ -37,14 +37,14 @@ abbrev pub place_of : JavaFrame → Place
 place_of f = record { method = method_of f; pc = f.pc }
 
 -- The events before an instruction, each once, where it was not announced. No handler is entered, no breakpoint set and no field watched yet.
-abbrev pub announced_as : Announced → ℕ → JavaFrame → List Record
-announced_as New t f = Raised (MethodEntry t (method_of f)) ∷ Raised (SingleStep t (place_of f)) ∷ []
-announced_as Caught t f = Raised (SingleStep t (place_of f)) ∷ []
-announced_as No t f = Raised (SingleStep t (place_of f)) ∷ []
-announced_as Yes t f = []
+abbrev pub pre_events_by : Announced → ℕ → JavaFrame → List Record
+pre_events_by New t f = Raised (MethodEntry t (method_of f)) ∷ Raised (SingleStep t (place_of f)) ∷ []
+pre_events_by Caught t f = Raised (SingleStep t (place_of f)) ∷ []
+pre_events_by No t f = Raised (SingleStep t (place_of f)) ∷ []
+pre_events_by Yes t f = []
 
-abbrev pub announcements : ℕ → JavaFrame → List Record
-announcements t f = announced_as f.announced t f
+abbrev pub pre_events : ℕ → JavaFrame → List Record
+pre_events t f = pre_events_by f.announced t f
 
 -- the frame at the next instruction
 abbrev pub gone_on : JavaFrame → Instr → List Value → JavaFrame
@@ -54,29 +54,28 @@ gone_on f i stack = record f { pc = f.pc + size i; stack = stack; announced = No
 abbrev pub performed : Core → ℕ → core.Thread → JavaFrame → List Frame → Instr → Effect → Change
 performed c t thread f below i (effects.Goes stack) = record {
   core = with_thread c t (record thread { frames = Java (gone_on f i stack) ∷ below });
-  records = announcements t f;
+  records = pre_events t f;
 }
 performed c t thread f below i (effects.Prints text stack) = record {
   core = record (with_thread c t (record thread { frames = Java (gone_on f i stack) ∷ below })) { output = c.output ++ text };
-  records = announcements t f;
+  records = pre_events t f;
 }
 performed c t thread f below i effects.Leaves = record {
   core = with_thread c t (record thread { frames = below });
-  records = announcements t f ++ Raised (MethodExit t (method_of f) Returned) ∷ Raised (FramePop t (method_of f) Returned f.birth) ∷ [];
+  records = pre_events t f ++ Raised (MethodExit t (method_of f) Returned) ∷ Raised (FramePop t (method_of f) Returned f.birth) ∷ [];
 }
-performed c t thread f below i effects.Misfit = record { core = c; records = announcements t f }
+performed c t thread f below i effects.Misfit = record { core = c; records = pre_events t f }
 
--- an instruction, and the tree of the class that it stands in
-abbrev pub instruction_in : JavaFrame → ClassFile → Option (Instr × ClassFile)
-instruction_in f tree = code_in tree f >>= at_pc f.pc >>= (λ i. Some (i, tree))
-
--- the instruction at a frame's pc, in the version that was newest at the frame's birth
+-- the instruction at a frame's pc, and the tree of the class that it stands in
 abbrev pub instruction_of : List Entry → JavaFrame → Option (Instr × ClassFile)
-instruction_of trace f = tree_at trace f >>= instruction_in f
+instruction_of trace f = do
+  tree ← tree_at trace f
+  i ← code trace f >>= at_pc f.pc
+  Some (i, tree)
 
--- without an instruction at the pc, which never is in the first form, nothing happens
+-- where no instruction begins at the pc, which never is so in an accepted class, the core stays as it is
 abbrev pub performed_at : Core → ℕ → core.Thread → JavaFrame → List Frame → Option (Instr × ClassFile) → Change
-performed_at c t thread f below None = record { core = c; records = announcements t f }
+performed_at c t thread f below None = record { core = c; records = pre_events t f }
 performed_at c t thread f below (Some p) = performed c t thread f below p.0 (effect c p.1 p.0 f.stack)
 
 abbrev pub execute : Core → List Entry → ℕ → core.Thread → List Frame → Change
@@ -128,7 +127,7 @@ machine_change c machines.Start = record {
 }
 machine_change c machines.Init = record {
   core = record c { phase = phases.Live; threads = record { object = 3; state = Unbegun; frames = [] } ∷ [] };
-  records = Inited ∷ Raised VMInit ∷ [];
+  records = Inited ∷ Raised (VMInit 1) ∷ [];
 }
 machine_change c machines.RaiseDeath = record { core = record c { died = true }; records = Died ∷ Raised VMDeath ∷ [] }
 machine_change c machines.Die = record { core = record c { phase = phases.Dead }; records = [] }
@@ -138,7 +137,7 @@ machine_change c machines.Die = record { core = record c { phase = phases.Dead }
 abbrev pub bytes_of : Job → Name → List ℕ
 bytes_of job name = elim (file_of job name) [ Some bytes ↦ bytes | None ↦ [] ]
 
--- section 5.5: the superclass is Object, which stands ready, and the class has no initializer
+-- JVM specification 5.5: the superclass is Object, which stands ready, and the class has no initializer
 abbrev pub end_init : Core → ℕ → core.Thread → List Frame → Change
 end_init c t thread (Init name place ∷ below) = record { core = with_thread (with_state c name states.Initialized) t (record thread { frames = below }); records = [] }
 end_init c t thread (Java f ∷ below) = record { core = c; records = [] }
@@ -147,13 +146,14 @@ end_init c t thread [] = record { core = c; records = [] }
 -- the array of no Strings is made, and main's frame pushed
 abbrev pub enter : Job → State → ℕ → core.Thread → Change
 enter job s t thread =
-    let object = length s.core.heap + 1 in record {
+    let object = length s.core.heap + 1 in
+    let records = Raised (VMObjectAlloc t object string_array) ∷ [] in record {
       core =
           with_thread (record s.core { heap = s.core.heap ++ record { class = string_array; content = Elements []; side = None } ∷ [] }) t (record thread {
             state = Running;
-            frames = Java (main_frame job.main object (length s.trace + 1)) ∷ thread.frames;
+            frames = Java (main_frame job.main object (length s.trace + length records)) ∷ thread.frames;
           });
-      records = Raised (VMObjectAlloc t object string_array) ∷ [];
+      records = records;
     }
 
 abbrev pub thread_change : Job → State → ℕ → core.Thread → ThreadRule → Change

@@ -1,4 +1,4 @@
--- The state of the machine at one moment: JVM specification 2.5. Nothing in it is told by the trace as well.
+-- The state of the machine at one moment: JVM specification 2.5.
 use Rattle.std.specs.Prelude.{ℕ, zero, suc, List, map, Option, None, option_map, Bool, bytes_eq, find, slice_get, slice_set, if◌then◌else◌, ◌&&◌}
 use Rattle.ti_ids.specs.declared.value.Value.{Value}
 use Rattle.ti_ids.specs.declared.actor.Actor.{Actor}
@@ -47,12 +47,18 @@ pub record Object : Type 0 where
   -- a Thread's target or a Throwable's message
   pub side : Option ℕ
 
--- section 2.11.10: the thread that holds an object's monitor and how often it entered, and the threads that wait for it
+-- a thread in an object's wait set, the entries that it gave up, and whether it was notified
+pub record Waiting : Type 0 where
+  pub thread : ℕ
+  pub entries : ℕ
+  pub notified : Bool
+
+-- section 2.11.10: the thread that holds an object's monitor and how often it entered, and those that wait, the longest waiting first
 pub record Monitor : Type 0 where
   pub object : ℕ
   pub owner : Option ℕ
   pub entries : ℕ
-  pub waiting : List ℕ
+  pub waiting : List Waiting
 
 pub record Static : Type 0 where
   pub field : Reference
@@ -78,7 +84,7 @@ pub record Core : Type 0 where
   pub heap : List Object
   pub monitors : List Monitor
   pub statics : List Static
-  -- the classes of files, in the order of loading
+  -- the classes of files, in the order of loading; the base classes are initialized from the first step on
   pub classes : List (Name × InitState)
   pub failures : List Failure
   pub output : List ℕ

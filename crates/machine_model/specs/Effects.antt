@@ -25,7 +25,7 @@ pub data Effect : Type 0 where
   Prints : List ℕ → List Value → Effect
   -- its frame is left
   Leaves : Effect
-  -- It finds no operands of its kinds, or its entry names nothing that it can use. A class of the first form never comes here, and nothing happens.
+  -- It finds no operands of its kinds, or its entry names nothing that it can use. An accepted class never comes here; the core stays as it is.
   Misfit : Effect
 
 abbrev pub system_out : Reference

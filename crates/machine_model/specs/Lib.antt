@@ -5,6 +5,10 @@ pub use Rattle.first_form.specs.ClassFiles
 pub use Rattle.first_form.specs.Instructions
 pub use Rattle.first_form.specs.Methods
 pub use Rattle.first_form.specs.Reading
+pub use Rattle.report_text.specs.Runs
+pub use Rattle.report_text.specs.Texts
+pub use Rattle.report_text.specs.Stated
+pub use Rattle.report_text.specs.Named
 pub mod Jobs
 pub mod Core
 pub mod Trace
@@ -13,3 +17,5 @@ pub mod Effects
 pub mod Changes
 pub mod Replay
 pub mod Picks
+pub mod Reports
+pub mod Results

@@ -1,5 +1,5 @@
 -- Which actor may make the next step, and by which rule. No call of an agent is ever pending yet.
-use Rattle.std.specs.Prelude.{ℕ, ◌+◌, List, [], ◌∷◌, ◌++◌, length, Option, Some, None, option_map, is_some, is_none, Bool, true, false, ◌&&◌, nat_le, if◌then◌else◌}
+use Rattle.std.specs.Prelude.{ℕ, ◌+◌, List, [], ◌∷◌, ◌++◌, length, Option, Some, None, option_map, is_some, is_none, Bool, true, false, ◌&&◌, nat_le, IsTrue, if◌then◌else◌}
 use Rattle.std.specs.List.{list_all, list_any, flat_map}
 use Rattle.ti_ids.specs.declared.actor.Actor.{Actor}
 use Rattle.ti_ids.specs.declared.actor.Actor.TheVariants.{Vm, Thread, Agent}
@@ -71,7 +71,7 @@ machine_rule c = rule_in c.phase (live_rule c.died (list_all has_ended c.threads
 
 -- ---- a thread's rules
 
--- the first unmet need of an initialized class, or else the entry (JVM specification 5.3 to 5.5)
+-- what main still needs of its class, or else the entry of main (JVM specification 5.3 to 5.5)
 abbrev pub entry_rule : Option InitState → ThreadRule
 entry_rule None = rules.Load
 entry_rule (Some states.Loaded) = rules.Link
@@ -128,7 +128,7 @@ lines_from trace n (a ∷ agents) = log trace n ++ lines_from trace (n + 1) agen
 abbrev pub all_lines : Job → State → List (List ℕ)
 all_lines job s = lines_from s.trace 1 job.agents
 
--- how many bytes all logs have at most, without line feeds
+-- as soon as all logs have so many bytes, without line feeds, the run ends
 abbrev pub log_bytes : ℕ
 log_bytes = 67108864
 
@@ -140,8 +140,8 @@ abbrev pub any_ready : Job → State → Bool
 any_ready job s = list_any (is_ready job s.core) (actors job s.core)
 
 -- why there is no next step
-abbrev pub end_of : Job → State → Option End
-end_of job s =
+abbrev pub end : Job → State → Option End
+end job s =
     if is_dead s.core.phase then Some ends.Dead
     else if nat_le job.limits.steps s.steps then Some ends.StepLimit
     else if is_logged_out job s then Some ends.LineLimit
@@ -149,6 +149,9 @@ end_of job s =
     else if any_ready job s then None
     else Some ends.Stuck
 
--- the actor may make the next step
-abbrev pub enabled : Job → State → Actor → Bool
-enabled job s actor = is_none (end_of job s) && is_ready job s.core actor
+-- whether the actor may make the next step
+abbrev pub is_enabled : Job → State → Actor → Bool
+is_enabled job s actor = is_none (end job s) && is_ready job s.core actor
+
+abbrev pub IsEnabled : Job → State → Actor → Type 0
+IsEnabled job s actor = IsTrue (is_enabled job s actor)

@@ -27,7 +27,7 @@ pub data Leaving : Type 0 where
 -- JVM TI, "Event Index": the first number is the thread's
 pub data Event : Type 0 where
   VMStart : Event
-  VMInit : Event
+  VMInit : ℕ → Event
   VMDeath : Event
   ThreadStart : ℕ → Event
   ThreadEnd : ℕ → Event
@@ -55,7 +55,8 @@ pub data Event : Type 0 where
 -- a value of a call's reply
 pub data Reply : Type 0 where
   Number : ℤ → Reply
-  Names : List (List ℕ) → Reply
+  Bytes : List ℕ → Reply
+  Texts : List (List ℕ) → Reply
 
 pub data Record : Type 0 where
   Started : Record
@@ -66,7 +67,7 @@ pub data Record : Type 0 where
   LoadFailed : Name → Name → Record
   Redefined : Name → List ℕ → Record
   Retransformed : Name → Record
-  -- from here on the first number is the environment's; a mask is set for one thread or for all
+  -- an environment's setting of an event, for one thread or for all
   ModeSet : ℕ → EventKind → Option ℕ → Bool → Record
   CapsChanged : ℕ → List Capability → Record
   RulesChosen : ℕ → Name → Record
@@ -76,13 +77,13 @@ pub data Record : Type 0 where
   BreakSet : Place → Record
   BreakCleared : Place → Record
   WatchSet : Reference → EventKind → Bool → Record
-  -- an object and its tag
+  -- an environment's tag of an object
   Tagged : ℕ → ℕ → ℤ → Record
-  -- a thread, the depth and the birth of its frame
+  -- by an environment: a thread, the depth and the birth of its frame
   PopAsked : ℕ → ℕ → ℕ → ℕ → Record
   SuspendSet : ℕ → Bool → Record
-  -- a class, the set of rules, which turn of how many it was, and whether it changed the bytes
-  Turned : ℕ → Name → Name → ℕ → ℕ → Bool → Record
+  -- of an environment: a class, the set of rules in force, which turn of how many it was, and whether it changed the bytes
+  Turned : ℕ → Name → Option Name → ℕ → ℕ → Bool → Record
   Raised : Event → Record
   Replied : ℕ → CallKind → ErrorCode → List Reply → Record
 
@@ -152,12 +153,16 @@ tree_at trace frame = do
   c ← class_of bytes
   Some (tree_of c)
 
--- the instructions of a frame's method in that tree
-abbrev pub code_in : ClassFile → JavaFrame → Option (List (ℕ × Instr))
-code_in tree frame = code_named tree frame.method frame.descriptor >>= listing
+-- the instructions of a frame's method in a tree
+abbrev pub code_in : JavaFrame → ClassFile → Option (List (ℕ × Instr))
+code_in frame tree = code_named tree frame.method frame.descriptor >>= listing
+
+-- those in the version that was newest at the frame's birth
+abbrev pub code : List Entry → JavaFrame → Option (List (ℕ × Instr))
+code trace frame = tree_at trace frame >>= code_in frame
 
 -- ---- the log of an environment
 
--- A line enters it for an event that a mask of the environment turns on, and for a turn and a reply of its own. No job has an agent yet, so that none of these comes.
+-- what an environment was told. No job has an agent yet, so that it is empty
 abbrev pub log : List Entry → ℕ → List (List ℕ)
 log trace environment = []
