@@ -1,0 +1,105 @@
+ghost use Rattle.std.specs.Prelude.{◌≡◌, ◌↔◌, IfOk, IsTrue};
+
+use std::alloc::{AllocError, Global};
+use std::marker::Model;
+
+/// A text as UTF-16 code units. Contracts see it as the list of them.
+///
+/// The class-file format spells its names in modified UTF-8 (JVM specification 4.4.7), which has a form for each unit,
+/// lone surrogates among them, so units say what any name of it says.
+#[derive(Drop, Debug)]
+pub struct Units {
+    units: Vec<u16>,
+}
+
+impl Model for Units {
+    ghost use Rattle.std.specs.Prelude.{List, ℕ};
+
+    ghost Value = { List ℕ };
+
+    ghost view = { λ u. u.units.items };
+}
+
+impl Units {
+    /// The text of these units, with no memory taken.
+    pub fn new(units: Vec<u16>) -> Units
+        ensures { result ≡ units.items }
+    {
+        Units { units }
+    }
+
+    /// The units, with no memory taken.
+    pub fn into_vec(self) -> Vec<u16>
+        ensures { result.items ≡ self }
+    {
+        self.units
+    }
+
+    /// Each byte as one unit, which is the bytes' text where they are ASCII.
+    pub fn from_ascii(alloc: Global, bytes: &[u8]) -> Result<Units, AllocError>
+        ensures { IfOk result (λ u. u ≡ bytes.now) }
+    {
+        let mut units = Vec::with_capacity(alloc, bytes.len())?;
+        for byte in bytes {
+            units.push(u16::from(*byte))?;
+        }
+        Ok(Units { units })
+    }
+
+    pub fn as_slice(&self) -> &[u16]
+        ensures { result.now ≡ self.now }
+    {
+        &self.units
+    }
+
+    /// A copy.
+    pub fn clone_in(&self, alloc: Global) -> Result<Units, AllocError>
+        ensures { IfOk result (λ u. u ≡ self.now) }
+    {
+        Ok(Units {
+            units: self.units.as_slice().to_vec(alloc)?,
+        })
+    }
+
+    /// Whether both are one text, unit for unit.
+    pub fn same(&self, other: &Units) -> bool
+        ensures { IsTrue result ↔ (self.now ≡ other.now) }
+    {
+        self.units.as_slice() == other.units.as_slice()
+    }
+
+    /// Whether the units are these bytes, one for one.
+    pub fn is_text(&self, bytes: &[u8]) -> bool
+        ensures { IsTrue result ↔ (self.now ≡ bytes.now) }
+    {
+        if self.units.len() != bytes.len() {
+            return false;
+        }
+        for i in 0..bytes.len() {
+            if self.units[i] != u16::from(bytes[i]) {
+                return false;
+            }
+        }
+        true
+    }
+}
+
+#[cfg(test)]
+mod tests {
+    use super::*;
+
+    #[test]
+    fn compares_texts(rt: HostRuntime) -> Result<(), AllocError> {
+        let alloc = rt.alloc();
+        let cases = [("", ""), ("Add", "Add"), ("Add", "Ade"), ("Add", "Ad")];
+        for (left, right) in cases {
+            let units = Units::from_ascii(alloc, left.as_bytes())?;
+            let others = Units::from_ascii(alloc, right.as_bytes())?.clone_in(alloc)?;
+            assert_eq!(rt; units.same(&others), left == right);
+            assert_eq!(rt; units.is_text(right.as_bytes()), left == right);
+        }
+        let back = Units::from_ascii(alloc, b"Add")?.into_vec();
+        assert_eq!(rt; back.as_slice(), [65, 100, 100].as_slice());
+        Ok(())
+    }
+}
