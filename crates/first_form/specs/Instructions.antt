@@ -51,9 +51,9 @@ listing code = listing_from 0 0 code
 abbrev pub at_pc : ℕ → List (ℕ × Instr) → Option Instr
 at_pc pc instrs = option_map (λ e. e.1) (find (λ e. e.0 == pc) instrs)
 
--- the instruction that stands at an offset of a code
-abbrev pub instruction_at : List ℕ → ℕ → Option Instr
-instruction_at code pc = listing code >>= at_pc pc
+-- the instruction of a code that stands at an offset
+abbrev pub instr_at : List ℕ → ℕ → Option Instr
+instr_at code pc = listing code >>= at_pc pc
 
 -- ---- the type check of this form: section 4.10.1, for a main that prints ints
 
