@@ -1,5 +1,5 @@
-ghost use Rattle.std.specs.Prelude.{◌≡◌, ◌++◌, ◌<◌, ◌^◌, List, Some, length, decimal, flat_map, IfOk, OnOk};
-ghost use Rattle.ti_ids.specs.declared.actor.Actor.{Actor as Who};
+ghost use Rattle.std.specs.Prelude.{◌≡◌, ◌++◌, ◌<◌, ◌^◌, List, length, decimal, flat_map, IfOk, OnOk};
+ghost use Rattle.ti_ids.specs.declared.actor.Actor.{Actor};
 ghost use Rattle.report_text.specs.Runs.{runs_of as runs_in};
 ghost use Rattle.report_text.specs.Named.{AllNamed};
 ghost use Rattle.report_text.specs.Stated.{stated};
@@ -208,7 +208,9 @@ fn put_back(text: &mut Vec<u8>, alloc: Global, parts: &ReportParts) -> Result<()
 /// that schedule's threads and agents, and of its steps, have at most nine digits.
 #[tactic(auto, unfolding(crate::specs::Texts::report_text))]
 pub fn report(alloc: Global, parts: &ReportParts) -> Result<Vec<u8>, AllocError>
-    ensures { IfOk result (λ t. t.items ≡ text_of parts.now) }
+    ensures text { IfOk result (λ t. t.items ≡ text_of parts.now) }
+    ensures states { IfOk result (λ t. (schedule : List Actor) → parts.now.runs ≡ runs_in schedule
+        → AllNamed schedule → length schedule < 10 ^ 9 → stated t.items ≡ Some schedule) }
 {
     let mut text = Vec::new(alloc);
     put_front(&mut text, alloc, parts)?;
