@@ -1,13 +1,11 @@
 -- Reports and schedule lines, computed.
-use Rattle.std.proofs.Common.{◌≡◌, ◌∙◌, ◌++◌, ℕ, List, [], ◌∷◌, Option, Some, None, refl, ap}
-use Rattle.std.specs.Prelude.{codes, replicate, flat_map}
-use Rattle.ti_ids.specs.declared.number.ThreadNo.{ThreadNo}
+use Rattle.std.proofs.Common.{◌≡◌, ◌++◌, ℕ, List, [], ◌∷◌, Some, None, refl}
+use Rattle.std.specs.Prelude.{codes, replicate}
 use Rattle.ti_ids.specs.declared.actor.Actor.{Actor}
-use Rattle.ti_ids.specs.declared.actor.Actor.TheVariants.{Vm, Thread, Agent}
+use Rattle.ti_ids.specs.declared.actor.Actor.TheVariants.{Vm, Thread}
 use Rattle.ti_ids.specs.declared.actor.End.TheVariants.{Dead}
 use Rattle.std.specs.Fmt.{digits}
 use Rattle.jv_names.specs.Names.{printed}
-use Rattle.report_text.specs.declared.run.Run.{Run}
 use Rattle.report_text.specs.declared.thread_line.ThreadLine.TheVariants.{Ended}
 use Rattle.report_text.specs.declared.parts.ReportParts.{ReportParts}
 use Rattle.report_text.specs.Runs.{runs_of}

@@ -1,22 +1,20 @@
 -- A report states the schedule whose runs it prints.
-use Rattle.std.proofs.Common.{◌≡◌, ◌∙◌, ◌<◌, ◌≤◌, ◌^◌, ℕ, List, [], ◌∷◌, ◌++◌, length, map, Option, Some, None, Bool, true, eqb, refl, ap, arith, inl, inr, cond}
+use Rattle.std.proofs.Common.{◌≡◌, ◌∙◌, ◌<◌, ◌^◌, ℕ, List, [], ◌∷◌, ◌++◌, length, map, Option, Some, None, Bool, true, refl, ap, arith, inl, inr, cond}
 use Rattle.std.specs.Prelude.{codes, decimal, flat_map}
 use Rattle.std.proofs.lemmas.List.{append-nil}
 use Rattle.ti_ids.specs.declared.actor.Actor.{Actor}
 use Rattle.ti_ids.specs.declared.actor.Actor.TheVariants.{Vm, Thread, Agent}
-use Rattle.ti_ids.specs.declared.number.ThreadNo.{ThreadNo}
-use Rattle.ti_ids.specs.declared.number.EnvNo.{EnvNo}
 use Rattle.ti_ids.specs.Maybe.{◌>>=◌}
 use Rattle.jv_names.specs.Names.{parts, printed}
 use Rattle.report_text.specs.declared.run.Run.{Run}
 use Rattle.report_text.specs.declared.parts.ReportParts.{ReportParts}
 use Rattle.report_text.specs.Runs.{runs_of}
 use Rattle.report_text.specs.Named.{IsNumber, IsNamed, AllNamed}
-use Rattle.report_text.specs.Texts.{line, actor_text, run_text, schedule_text, end_texts, back_texts, front_texts, report_text}
+use Rattle.report_text.specs.Texts.{line, actor_text, run_text, schedule_text, end_texts, back_texts, report_text}
 use Rattle.report_text.specs.Stated.{numeral, stated_actor, stated_pair, stated_runs, stated_words, is_joined, expanded, first_line, stated}
 use Rattle.report_text.proofs.Pieces.{lacks, lacks-append, lacks-printed, parts-then, parts-last, parts-line}
 use Rattle.report_text.proofs.Numerals.{numeral-decimal, lacks-decimal}
-use Rattle.report_text.proofs.Joining.{IsWithin, AllWithin, within-runs_of, is_joined-runs_of, expanded-runs_of}
+use Rattle.report_text.proofs.Joining.{AllWithin, within-runs_of, is_joined-runs_of, expanded-runs_of}
 
 stated_actor-actor_text : (a : Actor) → IsNamed a → stated_actor (actor_text a) ≡ Some a
 stated_actor-actor_text Vm h = refl

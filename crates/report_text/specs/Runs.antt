@@ -1,5 +1,5 @@
 -- A schedule as runs: the steps that one actor makes in a row are one run, so neighbouring runs have different actors.
-use Rattle.std.specs.Prelude.{ℕ, ◌+◌, List, [], ◌∷◌, if◌then◌else◌}
+use Rattle.std.specs.Prelude.{◌+◌, List, [], ◌∷◌, if◌then◌else◌}
 use Rattle.ti_ids.specs.declared.actor.Actor.{Actor}
 use Rattle.ti_ids.specs.Actors.{same_actor}
 use Rattle.report_text.specs.declared.run.Run.{Run}

@@ -4,8 +4,6 @@
 -- different actors. No other line is read, and the last line feed may be missing.
 use Rattle.std.specs.Prelude.{ℕ, ◌+◌, ◌-◌, ◌*◌, List, [], ◌∷◌, Option, Some, None, Bool, true, false, not, ◌&&◌, ◌==◌, nat_lt, nat_le, if◌then◌else◌, length, codes, flat_map, replicate, bytes_eq, nat_eq}
 use Rattle.std.specs.List.{list_all, starts_with}
-use Rattle.ti_ids.specs.declared.number.ThreadNo.{ThreadNo}
-use Rattle.ti_ids.specs.declared.number.EnvNo.{EnvNo}
 use Rattle.ti_ids.specs.declared.actor.Actor.{Actor}
 use Rattle.ti_ids.specs.declared.actor.Actor.TheVariants.{Vm, Thread, Agent}
 use Rattle.ti_ids.specs.Actors.{same_actor}

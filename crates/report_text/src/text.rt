@@ -44,12 +44,7 @@ fn put_number(text: &mut Vec<u8>, alloc: Global, number: u64) -> Result<(), Allo
 
 /// A line of a label and a number.
 #[tactic(auto, using(std::proofs::Common::append_assoc))]
-fn put_count(
-    text: &mut Vec<u8>,
-    alloc: Global,
-    label: &str,
-    number: u64,
-) -> Result<(), AllocError>
+fn put_count(text: &mut Vec<u8>, alloc: Global, label: &str, number: u64) -> Result<(), AllocError>
     ensures { OnOk result (text.new.items ≡ text.old.items ++ line (label.now ++ decimal number)) }
 {
     text.extend_from_slice(label.as_bytes())?;
@@ -103,7 +98,8 @@ fn put_thread(
     number: usize,
     thread: &ThreadLine,
 ) -> Result<(), AllocError>
-    ensures { OnOk result (text.new.items ≡ text.old.items ++ line (thread_text number thread.now)) }
+    ensures { OnOk result (text.new.items
+        ≡ text.old.items ++ line (thread_text number thread.now)) }
 {
     text.extend_from_slice(b"thread ")?;
     put_number(text, alloc, number as u64)?;
@@ -116,7 +112,8 @@ fn put_thread(
 }
 
 fn put_threads(text: &mut Vec<u8>, alloc: Global, threads: &[ThreadLine]) -> Result<(), AllocError>
-    ensures { OnOk result (text.new.items ≡ text.old.items ++ flat_map line (thread_texts 1 threads.now)) }
+    ensures { OnOk result (text.new.items
+        ≡ text.old.items ++ flat_map line (thread_texts 1 threads.now)) }
 {
     for (i, thread) in threads.iter().enumerate() {
         put_thread(text, alloc, i + 1, thread)?;
@@ -126,7 +123,8 @@ fn put_threads(text: &mut Vec<u8>, alloc: Global, threads: &[ThreadLine]) -> Res
 
 #[tactic(auto, using(std::proofs::Common::append_assoc))]
 fn put_output(text: &mut Vec<u8>, alloc: Global, output: &[u8]) -> Result<(), AllocError>
-    ensures { OnOk result (text.new.items ≡ text.old.items ++ flat_map line (output_texts output.now)) }
+    ensures { OnOk result (text.new.items
+        ≡ text.old.items ++ flat_map line (output_texts output.now)) }
 {
     put_count(text, alloc, "output ", output.len() as u64)?;
     put_line(text, "", output)
@@ -143,7 +141,8 @@ fn put_lines(text: &mut Vec<u8>, lines: &[Bytes]) -> Result<(), AllocError>
 
 #[tactic(auto, using(std::proofs::Common::append_assoc))]
 fn put_agent(text: &mut Vec<u8>, alloc: Global, agent: &AgentLog) -> Result<(), AllocError>
-    ensures { OnOk result (text.new.items ≡ text.old.items ++ flat_map line (agent_texts agent.now)) }
+    ensures { OnOk result (text.new.items
+        ≡ text.old.items ++ flat_map line (agent_texts agent.now)) }
 {
     text.extend_from_slice(b"agent ")?;
     text.extend_from_slice(agent.name.as_slice())?;
@@ -153,7 +152,8 @@ fn put_agent(text: &mut Vec<u8>, alloc: Global, agent: &AgentLog) -> Result<(), 
 }
 
 fn put_logs(text: &mut Vec<u8>, alloc: Global, agents: &[AgentLog]) -> Result<(), AllocError>
-    ensures { OnOk result (text.new.items ≡ text.old.items ++ flat_map line (flat_map agent_texts agents.now)) }
+    ensures { OnOk result (text.new.items
+        ≡ text.old.items ++ flat_map line (flat_map agent_texts agents.now)) }
 {
     for agent in agents {
         put_agent(text, alloc, agent)?;
@@ -163,7 +163,8 @@ fn put_logs(text: &mut Vec<u8>, alloc: Global, agents: &[AgentLog]) -> Result<()
 
 #[tactic(auto, using(std::proofs::Common::append_assoc))]
 fn put_agents(text: &mut Vec<u8>, alloc: Global, agents: &[AgentLog]) -> Result<(), AllocError>
-    ensures { OnOk result (text.new.items ≡ text.old.items ++ flat_map line (agents_texts agents.now)) }
+    ensures { OnOk result (text.new.items
+        ≡ text.old.items ++ flat_map line (agents_texts agents.now)) }
 {
     put_count(text, alloc, "agents ", agents.len() as u64)?;
     put_logs(text, alloc, agents)
@@ -186,7 +187,8 @@ fn put_end(
 /// What was run, by which schedule, and how it is over.
 #[tactic(auto, using(std::proofs::Common::append_assoc))]
 fn put_front(text: &mut Vec<u8>, alloc: Global, parts: &ReportParts) -> Result<(), AllocError>
-    ensures { OnOk result (text.new.items ≡ text.old.items ++ flat_map line (front_texts parts.now)) }
+    ensures { OnOk result (text.new.items
+        ≡ text.old.items ++ flat_map line (front_texts parts.now)) }
 {
     text.extend_from_slice(b"report 1\nprofile 1\n")?;
     put_line(text, "main ", &printed(alloc, &parts.main)?)?;
@@ -197,7 +199,8 @@ fn put_front(text: &mut Vec<u8>, alloc: Global, parts: &ReportParts) -> Result<(
 /// What came of it.
 #[tactic(auto, using(std::proofs::Common::append_assoc))]
 fn put_back(text: &mut Vec<u8>, alloc: Global, parts: &ReportParts) -> Result<(), AllocError>
-    ensures { OnOk result (text.new.items ≡ text.old.items ++ flat_map line (back_texts parts.now)) }
+    ensures { OnOk result (text.new.items
+        ≡ text.old.items ++ flat_map line (back_texts parts.now)) }
 {
     put_threads(text, alloc, parts.threads.as_slice())?;
     put_output(text, alloc, parts.output.as_slice())?;
@@ -216,4 +219,99 @@ pub fn report(alloc: Global, parts: &ReportParts) -> Result<Vec<u8>, AllocError>
     put_front(&mut text, alloc, parts)?;
     put_back(&mut text, alloc, parts)?;
     Ok(text)
+}
+
+#[cfg(test)]
+mod tests {
+    use super::*;
+    use crate::{AgentLogs, Lines, Runs, ThreadLines};
+    use jv_names::Units;
+
+    const VM: Actor = Actor::Vm;
+
+    const FIRST: Actor = Actor::Thread(ThreadNo(1));
+
+    const SECOND: Actor = Actor::Agent(EnvNo(2));
+
+    fn bytes(alloc: Global, text: &str) -> Result<Bytes, AllocError> {
+        Ok(Bytes::new(text.as_bytes().to_vec(alloc)?))
+    }
+
+    fn log(alloc: Global, name: &str, line: &str) -> Result<AgentLog, AllocError> {
+        let lines = vec![in alloc; bytes(alloc, line)?, bytes(alloc, "")?]?;
+        Ok(AgentLog {
+            name: bytes(alloc, name)?,
+            lines: Lines::new(lines),
+        })
+    }
+
+    fn runs(alloc: Global, runs: &[(Actor, u32)]) -> Result<Runs, AllocError> {
+        let mut listed = Vec::new(alloc);
+        for (actor, count) in runs {
+            listed.push(Run {
+                actor: *actor,
+                count: *count,
+            })?;
+        }
+        Ok(Runs::new(listed))
+    }
+
+    #[test]
+    fn prints_a_finished_run(rt: HostRuntime) -> Result<(), AllocError> {
+        let alloc = rt.alloc();
+        let parts = ReportParts {
+            main: Units::from_ascii(alloc, b"Add")?,
+            runs: runs(alloc, &[(VM, 2), (FIRST, 13), (VM, 2)])?,
+            steps: 17,
+            end: Some(End::Dead),
+            threads: ThreadLines::new(vec![in alloc; ThreadLine::Ended]?),
+            output: bytes(alloc, "5\n")?,
+            agents: AgentLogs::new(Vec::new(alloc)),
+        };
+        let wanted = "report 1\nprofile 1\nmain Add\nschedule v:2 t1:13 v:2\nsteps 17\nend dead\n\
+            thread 1 ended\noutput 2\n5\n\nagents 0\n";
+        let text = report(alloc, &parts)?;
+        assert_eq!(rt; text.as_slice(), wanted.as_bytes());
+        Ok(())
+    }
+
+    #[test]
+    fn prints_a_cut_run_with_agents(rt: HostRuntime) -> Result<(), AllocError> {
+        let alloc = rt.alloc();
+        let class = Units::from_ascii(alloc, b"a/B c")?;
+        let parts = ReportParts {
+            main: Units::new(vec![in alloc; 0x61, 0x2f, 0xe9]?),
+            runs: runs(alloc, &[(SECOND, 1), (FIRST, 20)])?,
+            steps: 21,
+            end: None,
+            threads: ThreadLines::new(vec![in alloc;
+                ThreadLine::Uncaught(class),
+                ThreadLine::Live,
+            ]?),
+            output: bytes(alloc, "")?,
+            agents: AgentLogs::new(vec![in alloc;
+                log(alloc, "trace", "enter a")?,
+                log(alloc, "count", "3 4")?,
+            ]?),
+        };
+        let wanted = "report 1\nprofile 1\nmain a/\\u00e9\nschedule a2:1 t1:20\nsteps 21\nend cut\n\
+            thread 1 uncaught a/B\\u0020c\nthread 2 live\noutput 0\n\nagents 2\n\
+            agent trace 2\nenter a\n\nagent count 2\n3 4\n\n";
+        let text = report(alloc, &parts)?;
+        assert_eq!(rt; text.as_slice(), wanted.as_bytes());
+        Ok(())
+    }
+
+    #[test]
+    fn names_ends(rt: HostRuntime) {
+        let cases = [
+            (Some(End::StepLimit), "step-limit"),
+            (Some(End::LineLimit), "line-limit"),
+            (Some(End::OutputLimit), "output-limit"),
+            (Some(End::Stuck), "stuck"),
+        ];
+        for (end, wanted) in cases {
+            assert_eq!(rt; end_name(end), wanted);
+        }
+    }
 }
