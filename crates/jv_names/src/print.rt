@@ -18,7 +18,8 @@ fn hex_digit(digit: u8) -> u8
 
 /// A unit that is printed by its number: a backslash, `u` and four hexadecimal digits.
 fn escape(unit: u16) -> [u8; 6]
-    ensures { result ≡ 92 ∷ 117 ∷ digit_of (unit / 4096 % 16) ∷ digit_of (unit / 256 % 16) ∷ digit_of (unit / 16 % 16) ∷ digit_of (unit % 16) ∷ [] }
+    ensures { result ≡ 92 ∷ 117 ∷ digit_of (unit / 4096 % 16) ∷ digit_of (unit / 256 % 16)
+        ∷ digit_of (unit / 16 % 16) ∷ digit_of (unit % 16) ∷ [] }
 {
     [
         b'\\',
