@@ -43,16 +43,25 @@ abbrev pub get_static : Option Value → List Value → Effect
 get_static None stack = Misfit
 get_static (Some value) stack = Goes (value ∷ stack)
 
+-- `iadd`, `isub` and `imul`
+abbrev pub int_arith : Op → List Value → Effect
+int_arith op (Int b ∷ Int a ∷ stack) = Goes (Int (int_op op a b) ∷ stack)
+int_arith op _ = Misfit
+
+-- an int on an object is printed
+abbrev pub print_int : List Value → Effect
+print_int (Int v ∷ Ref (Some o) ∷ stack) = Prints (printed_int v) stack
+print_int _ = Misfit
+
 -- `invokevirtual` of a base method, so far of the one that prints an int
 abbrev pub invoke_virtual : Option Reference → List Value → Effect
-invoke_virtual (Some method) (Int v ∷ Ref (Some o) ∷ stack) = if same_reference method println_int then Prints (printed_int v) stack else Misfit
-invoke_virtual method stack = Misfit
+invoke_virtual None stack = Misfit
+invoke_virtual (Some method) stack = if same_reference method println_int then print_int stack else Misfit
 
 -- an instruction of a class with this tree, on this stack
 abbrev pub effect : Core → ClassFile → Instr → List Value → Effect
 effect core tree (IntConst n) stack = Goes (Int n ∷ stack)
-effect core tree (IntArith op) (Int b ∷ Int a ∷ stack) = Goes (Int (int_op op a b) ∷ stack)
-effect core tree (IntArith op) _ = Misfit
+effect core tree (IntArith op) stack = int_arith op stack
 effect core tree (GetStatic n) stack = get_static (field_at tree n >>= static_at core) stack
 effect core tree (InvokeVirtual n) stack = invoke_virtual (method_at tree n) stack
 effect core tree Return stack = Leaves

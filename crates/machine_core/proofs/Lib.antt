@@ -1,0 +1,11 @@
+pub mod Stacks
+pub mod Zips
+pub mod Classes
+pub mod Kept
+pub mod Ready
+pub mod Seen
+pub mod Stepped
+pub mod Opening
+pub mod Rounds
+pub mod Keeping
+pub mod Performed

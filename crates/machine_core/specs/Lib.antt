@@ -1,0 +1,17 @@
+pub use Rattle.machine_model.specs.Jobs
+pub use Rattle.machine_model.specs.Rules
+pub use Rattle.machine_model.specs.Replay
+pub use Rattle.machine_model.specs.Picks
+pub use Rattle.machine_model.specs.Reports
+pub use Rattle.first_form.specs.ClassFiles
+pub use Rattle.first_form.specs.Reading
+pub use Rattle.report_text.specs.Named
+pub mod Performs
+pub mod Frames
+pub mod Lists
+pub mod ThreadChanges
+pub mod Seen
+pub mod Stands
+pub mod MachineValue
+pub mod Keeps
+pub mod Machines
