@@ -1,5 +1,5 @@
 -- Instructions by their places, and the listing of a code.
-use Rattle.std.proofs.Common.{◌≡◌, ℕ, zero, suc, ◌+◌, ◌-◌, ◌≤◌, ◌<◌, List, [], ◌∷◌, ◌++◌, length, get_or, take, drop, Option, Some, None, refl, ap, sym, subst, ◌∙◌, arith, add-one, append_assoc, drop-cons}
+use Rattle.std.proofs.Common.{◌≡◌, ℕ, zero, suc, ◌+◌, ◌-◌, ◌≤◌, ◌<◌, List, [], ◌∷◌, ◌++◌, length, get_or, take, drop, Option, Some, None, refl, ap, subst, ◌∙◌, arith, add-one, append_assoc, drop-cons}
 use Rattle.std.proofs.lemmas.List.{append-nil, length-append, length-drop, take_all, drop_all}
 use Rattle.ti_ids.specs.Maybe.{◌>>=◌}
 use Rattle.first_form.specs.declared.Instr.{Instr}

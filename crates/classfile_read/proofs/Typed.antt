@@ -1,5 +1,5 @@
 -- The type check, place by place.
-use Rattle.std.proofs.Common.{◌≡◌, ◌==◌, ℕ, zero, suc, List, [], ◌∷◌, length, Option, Some, None, Bool, true, false, ◌&&◌, nat_le, eqb, if◌then◌else◌, refl, sym, subst, ◌∙◌, arith, ◌⊎◌, inl, inr}
+use Rattle.std.proofs.Common.{◌≡◌, ◌==◌, ℕ, List, [], ◌∷◌, length, Option, Some, None, Bool, true, false, ◌&&◌, nat_le, eqb, if◌then◌else◌, refl, sym, subst, ◌∙◌, arith, ◌⊎◌, inl, inr}
 use Rattle.first_form.specs.declared.Instr.{Instr}
 use Rattle.first_form.specs.declared.Instr.TheVariants.{IntConst, IntArith, GetStatic, InvokeVirtual, Return}
 use Rattle.first_form.specs.declared.Kind.{Kind}

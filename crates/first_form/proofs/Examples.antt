@@ -1,7 +1,6 @@
 -- The definitions, computed at one class file, which a Java compiler's output was the pattern of.
 use Rattle.std.proofs.Common.{◌≡◌, ℕ, List, [], ◌∷◌, ◌++◌, length, Some, None, pos, refl}
 use Rattle.std.specs.Prelude.{codes}
-use Rattle.first_form.specs.declared.Instr.{Instr}
 use Rattle.first_form.specs.declared.Instr.TheVariants.{IntConst, IntArith, GetStatic, InvokeVirtual, Return}
 use Rattle.first_form.specs.declared.Op.TheVariants.{Add}
 use Rattle.first_form.specs.BaseSet.{base_classes}

@@ -1,11 +1,10 @@
 -- Instructions: JVM specification 6.5. A code is the list of its instructions, each with its offset.
-use Rattle.std.specs.Prelude.{◌≡◌, ℕ, zero, suc, ◌+◌, ◌-◌, ◌*◌, List, [], ◌∷◌, length, get_or, Option, Some, None, option_map, find, Bool, true, false, ◌==◌, ◌&&◌, nat_le, if◌then◌else◌, ℤ, pos, ◌-ℤ◌}
+use Rattle.std.specs.Prelude.{◌≡◌, ℕ, zero, suc, ◌+◌, ◌-◌, ◌*◌, List, [], ◌∷◌, length, get_or, Option, Some, None, option_map, find, Bool, false, ◌==◌, ◌&&◌, nat_le, if◌then◌else◌, pos, ◌-ℤ◌}
 use Rattle.ti_ids.specs.Maybe.{◌>>=◌}
 use Rattle.first_form.specs.declared.Instr.{Instr}
 use Rattle.first_form.specs.declared.Instr.TheVariants.{IntConst, IntArith, GetStatic, InvokeVirtual, Return}
 use Rattle.first_form.specs.declared.Kind.{Kind}
 use Rattle.first_form.specs.declared.Kind.TheVariants.{Int, Stream}
-use Rattle.first_form.specs.declared.Op.{Op}
 use Rattle.first_form.specs.declared.Op.TheVariants.{Add, Sub, Mul}
 
 -- an opcode, and the two bytes behind it, of which a short instruction has no use

@@ -1,11 +1,10 @@
 -- Reading a class file from left to right.
-use Rattle.std.specs.Prelude.{◌≡◌, ℕ, zero, suc, ◌+◌, List, [], ◌∷◌, ◌++◌, length, take, drop, Option, Some, None, Bool, ◌==◌, ◌&&◌, nat_lt, if◌then◌else◌, bytes_eq, flat_map}
+use Rattle.std.specs.Prelude.{ℕ, ◌+◌, List, [], ◌∷◌, ◌++◌, length, take, drop, Option, Some, None, ◌==◌, nat_lt, if◌then◌else◌, bytes_eq, flat_map}
 use Rattle.std.specs.List.{starts_with}
 use Rattle.std.specs.Bool.{nat_eq}
 use Rattle.std.specs.Int.{Width, w16, w32, byte_len, from_be_bytes}
 use Rattle.ti_ids.specs.Maybe.{◌>>=◌}
-use Rattle.jv_names.specs.Names.{Name}
-use Rattle.first_form.specs.ClassFiles.{u2, spelled_constant, fixed_pool, MainClass, is_main_class}
+use Rattle.first_form.specs.ClassFiles.{spelled_constant, fixed_pool, MainClass, is_main_class}
 
 -- what stands before the length of the name, between it and the length of the attribute Code, and behind the code
 abbrev pub head : List ℕ

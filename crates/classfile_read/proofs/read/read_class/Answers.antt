@@ -1,4 +1,4 @@
-use Rattle.std.proofs.Common.{◌≡◌, ℕ, List, Option, Some, Result, Ok, Err, arith, sym}
+use Rattle.std.proofs.Common.{ℕ, List, Result, Ok, Err, arith}
 use Rattle.std.specs.Prelude.{IfOk}
 use Rattle.first_form.specs.ClassFiles.{MainClass, Spells}
 use Rattle.first_form.specs.Reading.{class_of}
