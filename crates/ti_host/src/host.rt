@@ -1,4 +1,4 @@
-ghost use Rattle.std.specs.Prelude.{◌≡◌, ◌⊎◌, IfSome, None, Some};
+ghost use Rattle.std.specs.Prelude.{◌≡◌, ◌<◌, ◌⊎◌, IfSome, None, Some};
 ghost use Rattle.ti_port.specs.Port.{Told, Rose};
 ghost use Rattle.machine_model.specs.Jobs.{Job as TheJob};
 ghost use Rattle.machine_model.specs.Results.{request_of, result_of, Accepted};
@@ -48,8 +48,8 @@ fn refuse<K: Sink>(refusal: Refusal, sink: &mut K) -> Status
     Status::WriteFault
 }
 
-/// Does what the words ask for, with one worker. It always returns, and ends in `OutOfMemory` only
-/// where an allocation was refused.
+/// Does what the words ask for, with one worker. It always returns. It ends in `OutOfMemory` only
+/// where an allocation was refused, which no clause can say.
 pub fn host_one<S: Store, K: Sink>(
     alloc: Global,
     words: &[String],
@@ -69,25 +69,27 @@ pub fn host_one<S: Store, K: Sink>(
     ensures complete { IfSome (S.files store.old) (λ files.
         ¬ Rose (S.faults store.old) (S.faults store.new)
         → ¬ Rose (K.faults sink.old) (K.faults sink.new)
-        → (status_of (result_of (texts words.now) files) ≡ Some result)
-        ⊎ (result ≡ Status.OutOfMemory)) }
+        → ((status_of (result_of (texts words.now) files) ≡ Some result) ⊎ (result ≡ Status.OutOfMemory))) }
 
     // The sink has got all of the text, after a failed put a front of it, and without memory nothing.
     ensures written { IfSome (S.files store.old) (λ files.
         Told (Writes (result_of (texts words.now) files) (S.faults store.old) (S.faults store.new) result)
         (K.held sink.old) (K.held sink.new)) }
 
-    // Words that are not accepted are refused whatever the files, with no fetch and no memory.
+    // Words that are not accepted are refused whatever the files and the memory, and no fetch fails.
     ensures usage { request_of (texts words.now) ≡ None
-        → (result ≡ Status.Usage) ⊎ (result ≡ Status.WriteFault) }
+        → ((result ≡ Status.Usage) ⊎ (result ≡ Status.WriteFault)) }
     ensures only_usage { result ≡ Status.Usage → request_of (texts words.now) ≡ None }
     ensures no_fetch { request_of (texts words.now) ≡ None
         → NoFetchFailed (S.faults store.old) (S.faults store.new) (S.failed store.old) (S.failed store.new) }
 
-    // A fault has its cause, and a cause has its fault.
+    // A fault has its cause, and no other status comes behind a cause.
     ensures store_count { StoreCounts (texts words.now) result
         (S.faults store.old) (S.faults store.new) (S.failed store.old) (S.failed store.new) }
     ensures sink_count { SinkCounts result (K.faults sink.old) (K.faults sink.new) }
+    ensures after_fetch { S.faults store.old < S.faults store.new
+        → ((result ≡ Status.ReadFault) ⊎ (result ≡ Status.WriteFault)) }
+    ensures after_put { K.faults sink.old < K.faults sink.new → result ≡ Status.WriteFault }
 {
     match load_job(alloc, words, store) {
         Ok(job) => run_and_write(alloc, job, sink),
