@@ -45,8 +45,8 @@ class_of-file : class_of (file_with code) ≡ Some add
 unfolding class_of name_and_code after counted_at number_at
 class_of-file = refl
 
--- the byte at 233 is `istore_3` in place of `iadd`
-class_of-changed : class_of (file_with (178 ∷ 0 ∷ 13 ∷ 5 ∷ 6 ∷ 62 ∷ 182 ∷ 0 ∷ 19 ∷ 177 ∷ [])) ≡ None
+-- the byte at 233 is `fadd` in place of `iadd`
+class_of-changed : class_of (file_with (178 ∷ 0 ∷ 13 ∷ 5 ∷ 6 ∷ 98 ∷ 182 ∷ 0 ∷ 19 ∷ 177 ∷ [])) ≡ None
 unfolding class_of name_and_code after counted_at number_at
 class_of-changed = refl
 

@@ -11,7 +11,7 @@ use Rattle.machine_model.specs.Jobs.{Job}
 use Rattle.machine_model.specs.Core as core
 use Rattle.machine_model.specs.Rules.{actors, numbered_threads, numbered_agents}
 use Rattle.machine_model.specs.Picks.{behind, up_to, round}
-use Rattle.machine_core.specs.Keeps.{actor_at, start_of}
+use Rattle.machine_core.specs.Places.{actor_at, start_of}
 
 abbrev pub all_of : List core.Thread → List Actor
 all_of us = Vm ∷ numbered_threads 1 us

@@ -14,4 +14,5 @@ pub mod Seen
 pub mod Stands
 pub mod MachineValue
 pub mod Keeps
+pub mod Places
 pub mod Machines

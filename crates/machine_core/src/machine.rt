@@ -8,7 +8,7 @@ ghost use Rattle.machine_model.specs.Picks.{round, pick as picks, next_actor as 
 ghost use Rattle.machine_model.specs.Reports.{report_parts};
 ghost use Rattle.machine_core.specs.Stands.{StandsFor};
 ghost use Rattle.machine_core.specs.Machines.{state_in, may_step, StepTold};
-ghost use Rattle.machine_core.specs.Keeps.{actor_at, start_of};
+ghost use Rattle.machine_core.specs.Places.{actor_at, start_of};
 
 use crate::job::Job;
 use crate::parts::{Parts, opening};

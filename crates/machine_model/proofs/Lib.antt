@@ -1,3 +1,4 @@
 pub mod Growth
 pub mod Replays
 pub mod Enabling
+pub mod Examples

@@ -1,6 +1,6 @@
 use Rattle.std.proofs.Common.{◌≡◌, ◌∙◌, Some, true, false, sym, ap, arith}
 use Rattle.ti_ids.specs.declared.actor.Actor.{Actor}
-use Rattle.machine_core.specs.Keeps.{actor_at}
+use Rattle.machine_core.specs.Places.{actor_at}
 use Rattle.machine_core.specs.Machines.{state_in, may_step}
 use Rattle.machine_core.proofs.Rounds.{hit, miss, may_by}
 use Rattle.machine_core.proofs.machine.Machine.first_enabled.Goals as goal

@@ -1,0 +1,76 @@
+-- The definitions, computed at the run of a class that prints the sum of 2 and 3.
+use Rattle.std.proofs.Common.{◌≡◌, ℕ, List, [], ◌∷◌, ◌++◌, Option, Some, None, Bool, true, false, refl}
+use Rattle.std.specs.Prelude.{codes, replicate, bytes_eq, if◌then◌else◌}
+use Rattle.std.specs.Fmt.{digits}
+use Rattle.std.specs.Int.{int_wrap}
+use Rattle.ti_ids.specs.declared.actor.Actor.{Actor}
+use Rattle.ti_ids.specs.declared.actor.Actor.TheVariants.{Vm, Thread}
+use Rattle.ti_ids.specs.declared.actor.End.TheVariants.{Dead}
+use Rattle.jv_names.specs.Names.{printed}
+use Rattle.first_form.specs.ClassFiles.{MainClass, spelling, tree_of}
+use Rattle.first_form.specs.Reading.{class_of, name_and_code, after, counted_at, number_at}
+use Rattle.report_text.specs.Texts.{report_text}
+use Rattle.report_text.specs.Stated.{stated}
+use Rattle.machine_model.specs.Jobs.{Job}
+use Rattle.machine_model.specs.Replay.{opening}
+use Rattle.machine_model.specs.Picks.{picked}
+use Rattle.machine_model.specs.Results as results
+use Rattle.machine_model.specs.Results.{Result, Refused, Accepted, result_of, result_text, job_of, picked_end}
+
+abbrev add : MainClass
+add = record { name = codes "Add"; code = 178 ∷ 0 ∷ 13 ∷ 5 ∷ 6 ∷ 96 ∷ 182 ∷ 0 ∷ 19 ∷ 177 ∷ [] }
+
+abbrev file : List ℕ
+file = spelling (tree_of add)
+
+abbrev job : Job
+job = job_of (codes "Add") file
+
+abbrev first : Actor
+first = Thread (record { 0 = 1 })
+
+abbrev schedule : List Actor
+schedule = Vm ∷ Vm ∷ replicate 13 first ++ Vm ∷ Vm ∷ []
+
+-- the one worker's schedule, from start to death
+picked-job : picked job ≡ schedule
+unfolding digits int_wrap opening class_of name_and_code after counted_at number_at
+picked-job = refl
+
+picked_end-job : picked_end job ≡ Some Dead
+unfolding digits int_wrap opening class_of name_and_code after counted_at number_at
+picked_end-job = refl
+
+-- ---- words and files
+
+abbrev words : List (List ℕ)
+words = codes "run" ∷ codes "--main" ∷ codes "Add" ∷ codes "--class" ∷ codes "Add.class" ∷ []
+
+abbrev files : List ℕ → Option (List ℕ)
+files name = if bytes_eq name (codes "Add.class") then Some file else None
+
+result_of-words : result_of words files ≡ Accepted job
+unfolding class_of name_and_code after counted_at number_at
+result_of-words = refl
+
+-- the report, byte for byte
+result_text-words : result_text (result_of words files)
+    ≡ codes "report 1\nprofile 1\nmain Add\nschedule v:2 t1:13 v:2\nsteps 17\nend dead\nthread 1 ended\noutput 2\n5\n\nagents 0\n"
+unfolding digits int_wrap opening class_of name_and_code after counted_at number_at report_text printed
+result_text-words = refl
+
+-- it states the schedule that was picked
+stated-report : stated (result_text (result_of words files)) ≡ Some schedule
+unfolding digits int_wrap opening class_of name_and_code after counted_at number_at report_text printed stated
+stated-report = refl
+
+-- another name is the file's fault, and an absent file is told before it
+result_of-other : result_of (codes "run" ∷ codes "--main" ∷ codes "Sub" ∷ codes "--class" ∷ codes "Add.class" ∷ []) files ≡ Refused results.BadClass
+unfolding class_of name_and_code after counted_at number_at
+result_of-other = refl
+
+result_of-absent : result_of (codes "run" ∷ codes "--main" ∷ codes "Add" ∷ codes "--class" ∷ codes "Sub.class" ∷ []) files ≡ Refused results.Absent
+result_of-absent = refl
+
+result_of-few : result_of (codes "run" ∷ codes "--main" ∷ codes "Add" ∷ []) files ≡ Refused results.Usage
+result_of-few = refl
