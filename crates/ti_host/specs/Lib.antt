@@ -1,0 +1,12 @@
+pub use Rattle.machine_model.specs.Results
+pub use Rattle.ti_port.specs.Port
+pub mod Words
+pub mod Statuses
+pub mod Headline
+pub mod Written
+pub mod Counts
+pub mod Puts
+pub mod Refusals
+pub mod Loads
+pub mod Runs
+pub mod Halves

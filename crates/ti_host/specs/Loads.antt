@@ -1,0 +1,36 @@
+-- What loading a job tells.
+use Rattle.std.specs.Prelude.{◌≡◌, ℕ, List, Option, Ok, Err}
+use Rattle.std.specs.Prelude as std
+use Rattle.machine_model.specs.Jobs.{Job}
+use Rattle.machine_model.specs.Results as results
+use Rattle.machine_model.specs.Results.{Result, Refused, Accepted}
+use Rattle.ti_host.specs.declared.load.JobFault.{JobFault}
+use Rattle.ti_host.specs.declared.load.JobFault.TheVariants as faults
+use Rattle.ti_host.specs.declared.refusal.Refusal.{Refusal}
+use Rattle.ti_host.specs.declared.refusal.Refusal.TheVariants.{Usage, Absent, ReadFault, TooLarge, BadClass}
+use Rattle.ti_host.specs.Counts.{FetchFailed, NoFetchFailed}
+
+-- the refusal is the result, unless a fetch failed
+abbrev pub IsRefusal : Refusal → Result → Type 0
+IsRefusal Usage asked = asked ≡ Refused results.Usage
+IsRefusal Absent asked = asked ≡ Refused results.Absent
+IsRefusal TooLarge asked = asked ≡ Refused results.TooLarge
+IsRefusal BadClass asked = asked ≡ Refused results.BadClass
+IsRefusal ReadFault asked = Unit {0}
+
+-- the job or the refusal is the result, unless a fetch failed or memory ran out
+abbrev pub Loads : std.Result Job JobFault → Result → Type 0
+Loads (Ok job) asked = asked ≡ Accepted job
+Loads (Err (faults.Refused refusal)) asked = IsRefusal refusal asked
+Loads (Err faults.Memory) asked = Unit {0}
+
+-- only a failed fetch counts
+abbrev pub LoadCounts : List (List ℕ) → std.Result Job JobFault → ℕ → ℕ → Option (List ℕ) → Option (List ℕ) → Type 0
+LoadCounts words (Err (faults.Refused ReadFault)) before now first last = FetchFailed words before now last
+LoadCounts words _ before now first last = NoFetchFailed before now first last
+
+-- what a fault says of a class file that was found
+abbrev pub IsOfClass : std.Result Job JobFault → Type 0
+IsOfClass (Ok job) = Unit {0}
+IsOfClass (Err (faults.Refused refusal)) = refusal ≡ BadClass
+IsOfClass (Err faults.Memory) = Unit {0}

@@ -1,0 +1,210 @@
+use super::*;
+use std::collections::BTreeMap;
+use std::fs;
+use std::test::Fail;
+use ti_port::{MemSink, MemStore, Store};
+
+/// The class `Add`, up to the instruction between its two numbers and its call.
+const FRONT: &[u8] =
+    b"\xca\xfe\xba\xbe\x00\x00\x004\x00\x14\x01\x00\x03Add\x07\x00\x01\x01\x00\x10java/lang/Object\
+    \x07\x00\x03\x01\x00\x04main\x01\x00\x16([Ljava/lang/String;)V\x01\x00\x04Code\x01\x00\x10ja\
+    va/lang/System\x07\x00\x08\x01\x00\x03out\x01\x00\x15Ljava/io/PrintStream;\x0c\x00\x0a\x00\
+    \x0b\x09\x00\x09\x00\x0c\x01\x00\x13java/io/PrintStream\x07\x00\x0e\x01\x00\x07println\x01\
+    \x00\x04(I)V\x0c\x00\x10\x00\x11\x0a\x00\x0f\x00\x12\x00!\x00\x02\x00\x04\x00\x00\x00\x00\
+    \x00\x01\x00\x09\x00\x05\x00\x06\x00\x01\x00\x07\x00\x00\x00\x16\x00\x03\x00\x01\x00\x00\x00\
+    \x0a\xb2\x00\x0d\x05\x06";
+
+const BACK: &[u8] = b"\xb6\x00\x13\xb1\x00\x00\x00\x00\x00\x00";
+
+const IADD: u8 = 0x60;
+
+const FADD: u8 = 0x62;
+
+const ISUB: u8 = 0x64;
+
+const ADD_TEXT: &str =
+    "report 1\nprofile 1\nmain Add\nschedule v:2 t1:13 v:2\nsteps 17\nend dead\nthread 1 ended\noutput 2\n5\n\nagents 0\n";
+
+const ISUB_TEXT: &str =
+    "report 1\nprofile 1\nmain Add\nschedule v:2 t1:13 v:2\nsteps 17\nend dead\nthread 1 ended\noutput 3\n-1\n\nagents 0\n";
+
+const ADD_WORDS: &[&str] = &["run", "--main", "Add", "--class", "Add.class"];
+
+/// What the file `Add.class` is.
+#[derive(Clone, Copy)]
+enum Held {
+    /// The class, with this instruction.
+    Class(u8),
+    /// One byte more than a class file may have.
+    TooLong,
+    /// There is no file.
+    Nothing,
+}
+
+struct Row {
+    name: &'static str,
+    words: &'static [&'static str],
+    held: Held,
+    status: Status,
+    text: &'static str,
+}
+
+const ROWS: [Row; 8] = [
+    Row {
+        name: "add_prints_five",
+        words: ADD_WORDS,
+        held: Held::Class(IADD),
+        status: Status::Done,
+        text: ADD_TEXT,
+    },
+    Row {
+        name: "add_isub_prints_minus_one",
+        words: ADD_WORDS,
+        held: Held::Class(ISUB),
+        status: Status::Done,
+        text: ISUB_TEXT,
+    },
+    Row {
+        name: "words_refused",
+        words: &["run", "--main", "Add"],
+        held: Held::Class(IADD),
+        status: Status::Usage,
+        text: "refused usage\n",
+    },
+    Row {
+        name: "no_words_refused",
+        words: &[],
+        held: Held::Class(IADD),
+        status: Status::Usage,
+        text: "refused usage\n",
+    },
+    Row {
+        name: "the main class has another name",
+        words: &["run", "--main", "Sub", "--class", "Add.class"],
+        held: Held::Class(IADD),
+        status: Status::BadClass,
+        text: "refused class 1 unsupported 0\n",
+    },
+    Row {
+        name: "floating_opcode",
+        words: ADD_WORDS,
+        held: Held::Class(FADD),
+        status: Status::BadClass,
+        text: "refused class 1 unsupported 0\n",
+    },
+    Row {
+        name: "class_too_large",
+        words: ADD_WORDS,
+        held: Held::TooLong,
+        status: Status::TooLarge,
+        text: "refused too-large class-bytes 1\n",
+    },
+    Row {
+        name: "class_absent",
+        words: ADD_WORDS,
+        held: Held::Nothing,
+        status: Status::Absent,
+        text: "refused absent 1\n",
+    },
+];
+
+fn bytes_of(alloc: Global, held: Held) -> Result<Option<Vec<u8>>, AllocError> {
+    match held {
+        Held::Class(instruction) => {
+            let mut bytes = FRONT.to_vec(alloc)?;
+            bytes.push(instruction)?;
+            bytes.extend_from_slice(BACK)?;
+            Ok(Some(bytes))
+        }
+        Held::TooLong => Ok(Some(vec![in alloc; 0u8; 1_048_577]?)),
+        Held::Nothing => Ok(None),
+    }
+}
+
+fn files_of(alloc: Global, held: Held) -> Result<BTreeMap<String, Vec<u8>>, Fail> {
+    let mut files = BTreeMap::new(alloc);
+    if let Some(bytes) = bytes_of(alloc, held)? {
+        files.insert(String::from_str(alloc, "Add.class")?, bytes)?;
+    }
+    Ok(files)
+}
+
+fn call<S: Store>(
+    alloc: Global,
+    words: &[&str],
+    store: &mut S,
+    sink: &mut MemSink,
+) -> Result<Status, AllocError> {
+    let mut texts = Vec::new(alloc);
+    for word in words {
+        texts.push(String::from_str(alloc, word)?)?;
+    }
+    Ok(host_one(alloc, &texts, store, sink))
+}
+
+#[test]
+fn rows_over_files_in_memory(rt: HostRuntime) -> Result<(), Fail> {
+    let alloc = rt.alloc();
+    for row in &ROWS {
+        let mut store = MemStore::steady(alloc, files_of(alloc, row.held)?);
+        let mut sink = MemSink::steady(alloc, 1000)?;
+        let status = call(alloc, row.words, &mut store, &mut sink)?;
+        assert_eq!(rt; status, row.status, "of {}", row.name);
+        assert_eq!(rt; sink.bytes(), row.text.as_bytes(), "of {}", row.name);
+    }
+    Ok(())
+}
+
+#[test]
+fn rows_over_real_files(rt: HostRuntime) -> Result<(), Fail> {
+    let alloc = rt.alloc();
+    for row in &ROWS {
+        if let Some(bytes) = bytes_of(alloc, row.held)? {
+            fs::write(&rt, "Add.class", &bytes)?;
+        } else {
+            fs::remove_file(&rt, "Add.class")?;
+        }
+        let mut store = FileStore::new(&rt);
+        let mut sink = MemSink::steady(alloc, 1000)?;
+        let status = call(alloc, row.words, &mut store, &mut sink)?;
+        assert_eq!(rt; status, row.status, "of {}", row.name);
+        assert_eq!(rt; sink.bytes(), row.text.as_bytes(), "of {}", row.name);
+    }
+    Ok(())
+}
+
+#[test]
+fn failed_calls_are_told(rt: HostRuntime) -> Result<(), Fail> {
+    let alloc = rt.alloc();
+    for (fetch, put, most, status, text) in [
+        (1, 0, 1000, Status::ReadFault, "refused read 1\n"),
+        (1, 3, 5, Status::WriteFault, "refused re"),
+        (0, 1, 1000, Status::WriteFault, ""),
+        (0, 10, 1, Status::WriteFault, "report 1\n"),
+    ] {
+        let files = files_of(alloc, Held::Class(IADD))?;
+        let mut store = MemStore::failing(files, vec![in alloc; fetch]?);
+        let mut sink = MemSink::failing(alloc, 1000, most, vec![in alloc; put]?)?;
+        let answer = call(alloc, ADD_WORDS, &mut store, &mut sink)?;
+        assert_eq!(rt; answer, status, "at fetch {fetch} and put {put}");
+        assert_eq!(rt;
+            sink.bytes(),
+            text.as_bytes(),
+            "at fetch {fetch} and put {put}"
+        );
+    }
+    Ok(())
+}
+
+/// No proof can refuse a program that always answers that memory ran out.
+#[test]
+fn always_out_of_memory_is_refused(rt: HostRuntime) -> Result<(), Fail> {
+    let alloc = rt.alloc();
+    let mut store = MemStore::steady(alloc, files_of(alloc, Held::Class(IADD))?);
+    let mut sink = MemSink::steady(alloc, 1000)?;
+    assert_eq!(rt;
+        call(alloc, ADD_WORDS, &mut store, &mut sink)?,
+        Status::Done
+    );
+    Ok(())
+}
