@@ -35,7 +35,7 @@ impl Job {
     pub fn new(file: ClassFile, bytes: Vec<u8>, limits: Limits) -> Job
         requires read { class_of bytes.items ≡ Some file }
         requires in_range { AreInRange limits }
-        ensures { result ≡ record { main = file.name; classes = bytes.items ∷ []; donors = []; agents = []; limits = limits } }
+        ensures made { result ≡ record { main = file.name; classes = bytes.items ∷ []; donors = []; agents = []; limits = limits } }
     {
         Job {
             file,
@@ -69,7 +69,7 @@ impl Job {
 
     /// An equal job.
     pub fn clone_in(&self, alloc: Global) -> Result<Job, AllocError>
-        ensures { IfOk result (λ j. j ≡ self.now) }
+        ensures same { IfOk result (λ j. j ≡ self.now) }
     {
         Ok(Job {
             file: self.file.clone_in(alloc)?,

@@ -103,7 +103,7 @@ fn place_behind(actor: Actor, threads: u32) -> u32
 impl Machine {
     /// A machine in the opening state of a job, before its first step.
     pub fn new(alloc: Global, job: Job) -> Machine
-        ensures { result ≡ record { job = job; schedule = []; spent = false } }
+        ensures fresh { result ≡ record { job = job; schedule = []; spent = false } }
     {
         let _ = job.file();
         let _ = job.limits();
@@ -118,14 +118,14 @@ impl Machine {
 
     /// What it runs.
     pub fn job(&self) -> &Job
-        ensures { result.now ≡ self.now.job }
+        ensures same { result.now ≡ self.now.job }
     {
         &self.job
     }
 
     /// Whether memory ran out in a step.
     pub fn is_spent(&self) -> bool
-        ensures { result ≡ self.now.spent }
+        ensures same { result ≡ self.now.spent }
     {
         self.spent
     }
@@ -161,7 +161,7 @@ impl Machine {
 
     /// Whether the actor may make the next step.
     pub fn enabled(&self, actor: Actor) -> bool
-        ensures { result ≡ (not self.now.spent && may_step self.now actor) }
+        ensures told { result ≡ (not self.now.spent && may_step self.now actor) }
     {
         if self.spent {
             return false;

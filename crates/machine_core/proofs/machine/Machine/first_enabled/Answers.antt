@@ -9,7 +9,7 @@ pub returns-then-enabled : goal.returns-then-enabled
 returns-then-enabled c = λ live.
     let m = c.args.self.now in
     let may : may_step m (actor_at c.loop-place.place) ≡ true =
-    ap (may_step m) (sym c.actor_of-actor.ensures) ∙ may_by c.enabled.result m.spent (may_step m c.actor_of-actor.result) c.enabled.ensures live ∙ c.if-enabled.true in
+    ap (may_step m) (sym c.actor_of-actor.ensures) ∙ may_by c.enabled.result m.spent (may_step m c.actor_of-actor.result) c.enabled.ensures.told live ∙ c.if-enabled.true in
     let top = c.requires.within live in
     let place = c.loop-place.place in
     let found = c.loop-place.invariant live ∙ hit (may_step m) m.job (state_in m).core place c.args.to c.requires.no_agents (omega arith) top may in
@@ -19,6 +19,6 @@ pub loop-place-preserved : goal.loop-place-preserved
 loop-place-preserved c = λ live.
     let m = c.args.self.now in
     let not' : may_step m (actor_at c.loop-place.place) ≡ false =
-    ap (may_step m) (sym c.actor_of-actor.ensures) ∙ may_by c.enabled.result m.spent (may_step m c.actor_of-actor.result) c.enabled.ensures live ∙ c.if-enabled.false in
+    ap (may_step m) (sym c.actor_of-actor.ensures) ∙ may_by c.enabled.result m.spent (may_step m c.actor_of-actor.result) c.enabled.ensures.told live ∙ c.if-enabled.false in
     let top = c.requires.within live in
     c.loop-place.invariant live ∙ miss (may_step m) m.job (state_in m).core c.loop-place.place c.args.to c.requires.no_agents (omega arith) top not'
