@@ -6,6 +6,8 @@ mod job;
 mod machine;
 mod operands;
 mod parts;
+#[cfg(test)]
+mod tests;
 mod thread;
 
 pub use job::Job;

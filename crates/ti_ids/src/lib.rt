@@ -5,6 +5,8 @@ mod actor;
 mod limits;
 mod number;
 mod state;
+#[cfg(test)]
+mod tests;
 mod value;
 
 pub use actor::{Actor, End};
