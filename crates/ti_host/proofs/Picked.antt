@@ -37,15 +37,6 @@ whole_value m n j s p =
     ∙ ap (λ (x : List Actor). let r : MachineValue = record { job = n.job; schedule = x; spent = m.spent } in r) s
     ∙ ap (λ (x : Bool). let r : MachineValue = record { job = n.job; schedule = picked n.job; spent = x } in r) p
 
--- before the first step
-pub sets_out : (machine : MachineValue) (vm : Actor) → machine.schedule ≡ [] → machine.spent ≡ false → picked machine.job ≡ picked_from machine.job.limits.steps machine.job opening vm 0
-    → IsOnTheWay machine machine.job machine.job.limits.steps vm 0
-sets_out machine vm fresh live is = record {
-  fixed = refl;
-  live = live;
-  rest = subst (λ (s : List Actor). picked machine.job ≡ s ++ picked_from machine.job.limits.steps machine.job (state machine.job s) vm 0) (sym fresh) is;
-}
-
 -- one step more
 pub goes_on : (m n : MachineValue) (job : Job) (steps counter : ℕ) (current : Actor) (made : ℕ) (p : Pick) → counter < steps → IsOnTheWay m job (steps - counter) current made
     → (m.spent ≡ false → Some p ≡ pick m.job (state_in m) current made) → n ≡ record m { schedule = m.schedule ++ p.0 ∷ [] } → IsOnTheWay n job (steps - (counter + 1)) p.0 (p.1 + 1)
@@ -74,12 +65,6 @@ stops m n left current made live way none =
     (sym (way.rest ∙ ap (λ (w : List Actor). m.schedule ++ w) (picked_none left n.job (state n.job m.schedule) current made none') ∙ append-nil m.schedule))
     (way.live ∙ sym live)
 
--- as many steps were made as may be picked
-pub runs_out : (m n : MachineValue) (left : ℕ) (current : Actor) (made : ℕ) → n.spent ≡ false → left ≡ 0 → IsOnTheWay m n.job left current made → m ≡ after_picked n
-runs_out m n left current made live none way =
-    whole_value m n way.fixed
-    (sym (way.rest ∙ ap (λ (k : ℕ). m.schedule ++ picked_from k n.job (state n.job m.schedule) current made) none ∙ append-nil m.schedule))
-    (way.live ∙ sym live)
-
+-- a step makes the schedule longer by one
 pub longer : (m n : MachineValue) (count : ℕ) (actor : Actor) → n ≡ record m { schedule = m.schedule ++ actor ∷ [] } → count ≤ length m.schedule → count + 1 ≤ length n.schedule
 longer m n count actor grew least = omega (arith, ap (λ (x : MachineValue). length x.schedule) grew, length-append m.schedule (actor ∷ []), least)

@@ -1,4 +1,4 @@
--- What a run's status rules out.
+-- What the status of a run rules out, and what that leaves of the top call's promises.
 use Rattle.std.proofs.Common.{◌≡◌, ℕ, List, Option, Some, None, Ok, inl, inr}
 use Rattle.std.specs.Prelude.{IfSome, option_map}
 use Rattle.ti_ids.specs.declared.actor.End.{End}
@@ -14,6 +14,7 @@ use Rattle.ti_host.specs.Counts.{NoFetchFailed, StoreCounts}
 use Rattle.ti_host.specs.Loads.{Loads}
 use Rattle.ti_host.specs.Halves.{RunAnswers, RunWrites}
 
+-- a status that no end has is not that of a run
 of_no_end : (end : Option End) (status : Status) → ((e : End) → status_of_end e ≡ status → ⊥) → option_map status_of_end end ≡ Some status → ⊥
 of_no_end None status never h = cc
 of_no_end (Some e) status never h = never e cc

@@ -1,5 +1,3 @@
-pub use Rattle.machine_model.specs.Results
-pub use Rattle.ti_port.specs.Port
 pub mod Words
 pub mod Statuses
 pub mod Headline

@@ -1,5 +1,6 @@
 use super::*;
 use std::collections::BTreeMap;
+use std::env::FillError;
 use std::fs;
 use std::test::Fail;
 use ti_port::{MemSink, MemStore, Store};
@@ -140,6 +141,48 @@ fn call<S: Store>(
         texts.push(String::from_str(alloc, word)?)?;
     }
     Ok(host_one(alloc, &texts, store, sink))
+}
+
+/// The arguments of a process, the program's name first.
+#[derive(Clone, Copy)]
+struct Arguments(&'static [&'static [u8]]);
+
+impl Env for Arguments {
+    fn arg(&self, i: usize, buf: &mut [u8]) -> Result<usize, FillError> {
+        let Some(&word) = self.0.get(i) else {
+            return Err(FillError::NotPresent);
+        };
+        if word.len() > buf.len() {
+            return Err(FillError::TooLong);
+        }
+        buf[..word.len()].copy_from_slice(word);
+        Ok(word.len())
+    }
+
+    fn var(&self, _name: &str, _buf: &mut [u8]) -> Result<usize, FillError> {
+        Err(FillError::NotPresent)
+    }
+
+    fn var_at(&self, _i: usize, _buf: &mut [u8]) -> Result<usize, FillError> {
+        Err(FillError::NotPresent)
+    }
+}
+
+#[test]
+fn words_that_are_no_text_are_none(rt: HostRuntime) -> Result<(), Fail> {
+    let alloc = rt.alloc();
+    for (arguments, want) in [
+        (
+            Arguments(&[b"ti_host", b"run", b"--main"]),
+            "[\"run\", \"--main\"]",
+        ),
+        (Arguments(&[b"ti_host", b"run", b"\xff"]), "[]"),
+        (Arguments(&[b"ti_host"]), "[]"),
+    ] {
+        let words = read_words(&(arguments, alloc))?;
+        assert_eq!(rt; format!(in alloc; "{words:?}")?.as_str(), want);
+    }
+    Ok(())
 }
 
 #[test]
