@@ -138,10 +138,11 @@ fn line_of(state: ThreadState) -> ThreadLine
 fn lines_of(alloc: Global, threads: &[Thread]) -> Result<Vec<ThreadLine>, AllocError>
     ensures { IfOk result (λ lines. lines.items ≡ map (λ t. standing t.state) threads.now) }
 {
-    threads
-        .iter()
-        .map(|thread| line_of(thread.state))
-        .collect(alloc)
+    let mut lines = Vec::new(alloc);
+    for thread in threads {
+        lines.push(line_of(thread.state))?;
+    }
+    Ok(lines)
 }
 
 /// The machine's rule in phase Live.
