@@ -14,7 +14,6 @@ use Rattle.machine_model.specs.Jobs as jobs
 use Rattle.machine_model.specs.Jobs.{Job}
 use Rattle.machine_model.specs.Core as core
 use Rattle.machine_model.specs.Trace.{Entry, log}
-use Rattle.machine_model.specs.Rules.{State}
 use Rattle.machine_model.specs.Replay.{state}
 
 abbrev pub standing : ThreadState → ThreadLine

@@ -1,5 +1,5 @@
 -- What words and files ask for: a job, or the first refusal. The words are `run --main NAME --class FILE`.
-use Rattle.std.specs.Prelude.{ℕ, List, [], ◌∷◌, length, Option, Some, None, Bool, true, false, not, ◌&&◌, nat_lt, ◌==◌, if◌then◌else◌, codes, bytes_eq}
+use Rattle.std.specs.Prelude.{ℕ, List, [], ◌∷◌, length, Option, Some, None, Bool, true, not, ◌&&◌, nat_lt, ◌==◌, if◌then◌else◌, codes, bytes_eq}
 use Rattle.ti_ids.specs.declared.limits.Limits.{Limits}
 use Rattle.ti_ids.specs.declared.actor.End.{End}
 use Rattle.jv_names.specs.Names.{is_class_name}
