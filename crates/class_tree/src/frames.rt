@@ -1,0 +1,168 @@
+ghost use Rattle.std.specs.Prelude.{◌<◌};
+
+use crate::{CloneIn, Same};
+use sqlite_items::Items;
+use std::alloc::{AllocError, Global};
+
+/// The type of a local variable or of an entry of the operand stack: a `verification_type_info` (4.7.4).
+#[derive(Clone, Copy, PartialEq)]
+pub enum VerificationType {
+    Top,
+    Integer,
+    Long,
+    Null,
+    UninitializedThis,
+    /// The pool's index of the type's `Class`.
+    Object(u16),
+    /// The offset in the code, in bytes, of the `new` that made the object.
+    Uninitialized(u16),
+}
+
+/// An `offset_delta` that a frame's own tag holds.
+#[derive(Clone, Copy, PartialEq)]
+pub struct ShortDelta {
+    pub bytes: u8,
+    pub ghost short: { bytes < 64 },
+}
+
+/// How many of the last locals a frame drops.
+#[derive(Clone, Copy, PartialEq)]
+pub enum Chopped {
+    One,
+    Two,
+    Three,
+}
+
+/// The locals that a frame adds, in their order.
+#[derive(Clone, Copy, PartialEq)]
+pub enum Appended {
+    One(VerificationType),
+    Two(VerificationType, VerificationType),
+    Three(VerificationType, VerificationType, VerificationType),
+}
+
+/// An entry of a stack map: a `stack_map_frame` (4.7.4), which tells the types of the locals and of the operand stack at
+/// an offset of the code. `delta`, in bytes, is the offset for the first frame, and for each other one the distance from
+/// the frame before, less one.
+#[derive(Drop)]
+pub enum StackMapFrame {
+    /// The locals of the frame before, and no stack.
+    Same {
+        delta: ShortDelta,
+    },
+    /// The locals of the frame before, and one entry on the stack.
+    SameLocals1StackItem {
+        delta: ShortDelta,
+        stack: VerificationType,
+    },
+    /// The same, with a delta of its own.
+    SameLocals1StackItemExtended {
+        delta: u16,
+        stack: VerificationType,
+    },
+    /// The locals of the frame before but the last ones, and no stack.
+    Chop {
+        delta: u16,
+        locals: Chopped,
+    },
+    /// As `Same`, with a delta of its own.
+    SameExtended {
+        delta: u16,
+    },
+    /// The locals of the frame before and some more, and no stack.
+    Append {
+        delta: u16,
+        locals: Appended,
+    },
+    /// All locals, and the stack from its bottom up.
+    Full {
+        delta: u16,
+        locals: Items<VerificationType>,
+        stack: Items<VerificationType>,
+    },
+}
+
+impl Same for StackMapFrame {
+    fn same(&self, other: &StackMapFrame) -> bool {
+        match (self, other) {
+            (StackMapFrame::Same { delta }, StackMapFrame::Same { delta: with }) => delta == with,
+            (
+                StackMapFrame::SameLocals1StackItem { delta, stack },
+                StackMapFrame::SameLocals1StackItem { delta: a, stack: b },
+            ) => delta == a && stack == b,
+            (
+                StackMapFrame::SameLocals1StackItemExtended { delta, stack },
+                StackMapFrame::SameLocals1StackItemExtended { delta: a, stack: b },
+            ) => delta == a && stack == b,
+            (
+                StackMapFrame::Chop { delta, locals },
+                StackMapFrame::Chop {
+                    delta: a,
+                    locals: b,
+                },
+            ) => delta == a && locals == b,
+            (StackMapFrame::SameExtended { delta }, StackMapFrame::SameExtended { delta: with }) =>
+                delta == with,
+            (
+                StackMapFrame::Append { delta, locals },
+                StackMapFrame::Append {
+                    delta: a,
+                    locals: b,
+                },
+            ) => delta == a && locals == b,
+            (
+                StackMapFrame::Full {
+                    delta,
+                    locals,
+                    stack,
+                },
+                StackMapFrame::Full {
+                    delta: a,
+                    locals: b,
+                    stack: c,
+                },
+            ) => {
+                delta == a && locals.as_slice() == b.as_slice() && stack.as_slice() == c.as_slice()
+            }
+            _ => false,
+        }
+    }
+}
+
+impl CloneIn for StackMapFrame {
+    fn clone_in(&self, alloc: Global) -> Result<StackMapFrame, AllocError> {
+        Ok(match self {
+            StackMapFrame::Same { delta } => StackMapFrame::Same { delta: *delta },
+            StackMapFrame::SameLocals1StackItem { delta, stack } => {
+                StackMapFrame::SameLocals1StackItem {
+                    delta: *delta,
+                    stack: *stack,
+                }
+            }
+            StackMapFrame::SameLocals1StackItemExtended { delta, stack } => {
+                StackMapFrame::SameLocals1StackItemExtended {
+                    delta: *delta,
+                    stack: *stack,
+                }
+            }
+            StackMapFrame::Chop { delta, locals } => StackMapFrame::Chop {
+                delta: *delta,
+                locals: *locals,
+            },
+            StackMapFrame::SameExtended { delta } => StackMapFrame::SameExtended { delta: *delta },
+            StackMapFrame::Append { delta, locals } => StackMapFrame::Append {
+                delta: *delta,
+                locals: *locals,
+            },
+            StackMapFrame::Full {
+                delta,
+                locals,
+                stack,
+            } => StackMapFrame::Full {
+                delta: *delta,
+                locals: Items::from_slice(alloc, locals.as_slice())?,
+                stack: Items::from_slice(alloc, stack.as_slice())?,
+            },
+        })
+    }
+}

@@ -1,0 +1,66 @@
+use crate::{CloneIn, Same};
+use jv_names::Units;
+use std::alloc::{AllocError, Global};
+
+/// An entry of the constant pool (4.4). Each index names another entry of the pool, by its number as the file has it:
+/// the first entry has the number 1.
+#[derive(Drop)]
+pub enum Const {
+    /// A text: `CONSTANT_Utf8` (4.4.7).
+    Utf8(Units),
+    /// `CONSTANT_Integer` (4.4.4).
+    Integer(i32),
+    /// `CONSTANT_Long` (4.4.5), which takes two places of the pool: the next entry is `Unused`.
+    Long(i64),
+    /// A class: the index of the text of its name in internal form (4.4.1).
+    Class(u16),
+    /// `CONSTANT_String`: the index of its text (4.4.3).
+    Text(u16),
+    /// `CONSTANT_Fieldref`: the indices of its `Class` and its `NameType` (4.4.2).
+    Field(u16, u16),
+    /// `CONSTANT_Methodref`: the indices of its `Class` and its `NameType` (4.4.2).
+    Method(u16, u16),
+    /// `CONSTANT_InterfaceMethodref`: the indices of its `Class` and its `NameType` (4.4.2).
+    InterfaceMethod(u16, u16),
+    /// `CONSTANT_NameAndType`: the indices of the texts of a name and a descriptor (4.4.6).
+    NameType(u16, u16),
+    /// The second place of a `Long`, which no index may name (4.4.5).
+    Unused,
+}
+
+impl Same for Const {
+    fn same(&self, other: &Const) -> bool {
+        match (self, other) {
+            (Const::Utf8(text), Const::Utf8(with)) => text.same(with),
+            (Const::Integer(value), Const::Integer(with)) => value == with,
+            (Const::Long(value), Const::Long(with)) => value == with,
+            (Const::Class(name), Const::Class(with)) => name == with,
+            (Const::Text(text), Const::Text(with)) => text == with,
+            (Const::Field(class, name_type), Const::Field(a, b)) => class == a && name_type == b,
+            (Const::Method(class, name_type), Const::Method(a, b)) => class == a && name_type == b,
+            (Const::InterfaceMethod(class, name_type), Const::InterfaceMethod(a, b)) => {
+                class == a && name_type == b
+            }
+            (Const::NameType(name, desc), Const::NameType(a, b)) => name == a && desc == b,
+            (Const::Unused, Const::Unused) => true,
+            _ => false,
+        }
+    }
+}
+
+impl CloneIn for Const {
+    fn clone_in(&self, alloc: Global) -> Result<Const, AllocError> {
+        Ok(match self {
+            Const::Utf8(text) => Const::Utf8(text.clone_in(alloc)?),
+            Const::Integer(value) => Const::Integer(*value),
+            Const::Long(value) => Const::Long(*value),
+            Const::Class(name) => Const::Class(*name),
+            Const::Text(text) => Const::Text(*text),
+            Const::Field(class, name_type) => Const::Field(*class, *name_type),
+            Const::Method(class, name_type) => Const::Method(*class, *name_type),
+            Const::InterfaceMethod(class, name_type) => Const::InterfaceMethod(*class, *name_type),
+            Const::NameType(name, desc) => Const::NameType(*name, *desc),
+            Const::Unused => Const::Unused,
+        })
+    }
+}
