@@ -20,7 +20,7 @@ pub struct Code {
 }
 
 /// An entry of a code's exception table (4.7.3). Its places are offsets in the code, in bytes.
-#[derive(Clone, Copy, PartialEq)]
+#[derive(Clone, Copy)]
 pub struct Handler {
     /// Where the range begins that it handles.
     pub start: u16,
@@ -66,7 +66,7 @@ impl Same for Code {
         self.max_stack == other.max_stack
             && self.max_locals == other.max_locals
             && self.bytes.as_slice() == other.bytes.as_slice()
-            && self.handlers.as_slice() == other.handlers.as_slice()
+            && self.handlers.same(&other.handlers)
             && self.attrs.same(&other.attrs)
     }
 }
@@ -80,6 +80,15 @@ impl CloneIn for Code {
             handlers: Items::from_slice(alloc, self.handlers.as_slice())?,
             attrs: self.attrs.clone_in(alloc)?,
         })
+    }
+}
+
+impl Same for Handler {
+    fn same(&self, other: &Handler) -> bool {
+        self.start == other.start
+            && self.end == other.end
+            && self.target == other.target
+            && self.catch_type == other.catch_type
     }
 }
 

@@ -5,7 +5,7 @@ use sqlite_items::Items;
 use std::alloc::{AllocError, Global};
 
 /// The type of a local variable or of an entry of the operand stack: a `verification_type_info` (4.7.4).
-#[derive(Clone, Copy, PartialEq)]
+#[derive(Clone, Copy)]
 pub enum VerificationType {
     Top,
     Integer,
@@ -18,11 +18,11 @@ pub enum VerificationType {
     Uninitialized(u16),
 }
 
-/// An `offset_delta` that a frame's own tag holds.
-#[derive(Clone, Copy, PartialEq)]
+/// An `offset_delta` that a frame's own tag holds, in bytes.
+#[derive(Clone, Copy)]
 pub struct ShortDelta {
-    pub bytes: u8,
-    pub ghost short: { bytes < 64 },
+    pub value: u8,
+    pub ghost short: { value < 64 },
 }
 
 /// How many of the last locals a frame drops.
@@ -34,7 +34,7 @@ pub enum Chopped {
 }
 
 /// The locals that a frame adds, in their order.
-#[derive(Clone, Copy, PartialEq)]
+#[derive(Clone, Copy)]
 pub enum Appended {
     One(VerificationType),
     Two(VerificationType, VerificationType),
@@ -82,18 +82,55 @@ pub enum StackMapFrame {
     },
 }
 
+impl Same for VerificationType {
+    fn same(&self, other: &VerificationType) -> bool {
+        match (self, other) {
+            (VerificationType::Top, VerificationType::Top)
+            | (VerificationType::Integer, VerificationType::Integer)
+            | (VerificationType::Long, VerificationType::Long)
+            | (VerificationType::Null, VerificationType::Null)
+            | (VerificationType::UninitializedThis, VerificationType::UninitializedThis) => true,
+            (VerificationType::Object(class), VerificationType::Object(with)) => class == with,
+            (VerificationType::Uninitialized(at), VerificationType::Uninitialized(with)) => at
+                == with,
+            _ => false,
+        }
+    }
+}
+
+impl Same for ShortDelta {
+    fn same(&self, other: &ShortDelta) -> bool {
+        self.value == other.value
+    }
+}
+
+impl Same for Appended {
+    fn same(&self, other: &Appended) -> bool {
+        match (self, other) {
+            (Appended::One(first), Appended::One(a)) => first.same(a),
+            (Appended::Two(first, second), Appended::Two(a, b)) => first.same(a) && second.same(b),
+            (Appended::Three(first, second, third), Appended::Three(a, b, c)) => {
+                first.same(a) && second.same(b) && third.same(c)
+            }
+            _ => false,
+        }
+    }
+}
+
 impl Same for StackMapFrame {
     fn same(&self, other: &StackMapFrame) -> bool {
         match (self, other) {
-            (StackMapFrame::Same { delta }, StackMapFrame::Same { delta: with }) => delta == with,
+            (StackMapFrame::Same { delta }, StackMapFrame::Same { delta: with }) => delta.same(
+                with,
+            ),
             (
                 StackMapFrame::SameLocals1StackItem { delta, stack },
                 StackMapFrame::SameLocals1StackItem { delta: a, stack: b },
-            ) => delta == a && stack == b,
+            ) => delta.same(a) && stack.same(b),
             (
                 StackMapFrame::SameLocals1StackItemExtended { delta, stack },
                 StackMapFrame::SameLocals1StackItemExtended { delta: a, stack: b },
-            ) => delta == a && stack == b,
+            ) => delta == a && stack.same(b),
             (
                 StackMapFrame::Chop { delta, locals },
                 StackMapFrame::Chop {
@@ -109,7 +146,7 @@ impl Same for StackMapFrame {
                     delta: a,
                     locals: b,
                 },
-            ) => delta == a && locals == b,
+            ) => delta == a && locals.same(b),
             (
                 StackMapFrame::Full {
                     delta,
@@ -121,9 +158,7 @@ impl Same for StackMapFrame {
                     locals: b,
                     stack: c,
                 },
-            ) => {
-                delta == a && locals.as_slice() == b.as_slice() && stack.as_slice() == c.as_slice()
-            }
+            ) => delta == a && locals.same(b) && stack.same(c),
             _ => false,
         }
     }

@@ -1,0 +1,8 @@
+use Rattle.std.proofs.Common.{◌≡◌, not, nat_eq, bit_and, ℕ, subst, sym}
+use Rattle.std.specs.Bool.{Decides}
+use Rattle.class_tree.specs.Flags.{HasFlag}
+use Rattle.class_tree.proofs.Flagged.{has_flag}
+use Rattle.class_tree.proofs.access.Flags.has.Goals as goal
+
+pub returns : goal.returns
+returns c = rw c.bit.ensures (has_flag c.args.self.bits c.args.flag)
