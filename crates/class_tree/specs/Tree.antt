@@ -48,7 +48,11 @@ name_type_at pool index = option_and_then (name_type_of pool) (entry_at pool ind
 abbrev pub IsNamed : List Const → Name → Name → Member → Type 0
 IsNamed pool name desc member = (text_at pool member.name ≡ Some name) × (text_at pool member.desc ≡ Some desc)
 
--- the test of it
+-- the one at a place of a list has
+abbrev pub IsNamedAt : List Const → Name → Name → List Member → ℕ → Type 0
+IsNamedAt pool name desc members place = (member : Member) × (slice_get members place ≡ Some member) × IsNamed pool name desc member
+
+-- the test of it: an index at which no text stands names nothing
 abbrev pub is_text : Option Name → Name → Bool
 is_text None name = false
 is_text (Some text) name = bytes_eq text name

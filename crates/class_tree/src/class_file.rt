@@ -1,5 +1,5 @@
-ghost use Rattle.std.specs.Prelude.{◌≡◌, ◌↔◌, IsTrue, IsNone, Some, option_map, option_copied, position, All};
-ghost use Rattle.class_tree.specs.Tree.{entry_at, text_at, class_at, name_type_at, is_named, IsNamed};
+ghost use Rattle.std.specs.Prelude.{◌≡◌, ◌↔◌, IsTrue, IfSome, IsNone, Some, option_map, option_copied, position, All};
+ghost use Rattle.class_tree.specs.Tree.{entry_at, text_at, class_at, name_type_at, is_named, IsNamed, IsNamedAt};
 
 use crate::{Attr, CloneIn, Const, Flags, Member, Same};
 use jv_names::Units;
@@ -125,6 +125,9 @@ impl ClassFile {
     /// each method, and takes no memory.
     pub fn method_at(&self, name: &Units, desc: &Units) -> Option<usize>
         ensures first { result ≡ position (is_named self.now.pool name.now desc.now) self.now.methods }
+
+        // The method there has that name and that descriptor, and where there is none, no method has.
+        ensures found { IfSome result (IsNamedAt self.now.pool name.now desc.now self.now.methods) }
         ensures absent { IsNone result ↔ All (λ m. ¬ IsNamed self.now.pool name.now desc.now m) self.now.methods }
     {
         self.place_of(self.methods.as_slice(), name, desc)
@@ -134,6 +137,9 @@ impl ClassFile {
     /// each field, and takes no memory.
     pub fn field_at(&self, name: &Units, desc: &Units) -> Option<usize>
         ensures first { result ≡ position (is_named self.now.pool name.now desc.now) self.now.fields }
+
+        // The field there has that name and that descriptor, and where there is none, no field has.
+        ensures found { IfSome result (IsNamedAt self.now.pool name.now desc.now self.now.fields) }
         ensures absent { IsNone result ↔ All (λ m. ¬ IsNamed self.now.pool name.now desc.now m) self.now.fields }
     {
         self.place_of(self.fields.as_slice(), name, desc)
