@@ -10,6 +10,8 @@ mod copies;
 mod frames;
 mod members;
 mod pool;
+#[cfg(test)]
+mod tests;
 
 pub use access::{Flag, Flags};
 pub use body::{Code, CodeAttr, Handler};
