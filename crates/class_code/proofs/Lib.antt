@@ -1,0 +1,10 @@
+pub mod Loops
+pub mod Places
+pub mod Reaching
+pub mod FormAt
+pub mod Take
+pub mod Numbers
+pub mod ReadBack
+pub mod FaultBack
+pub mod Listings
+pub mod LenLaws

@@ -1,0 +1,9 @@
+-- In the order in which to read them. No contract of a public function cites the last one.
+pub mod Codes
+pub mod Spelling
+pub mod Ranges
+pub mod Listing
+pub mod Forms
+pub mod Faults
+pub mod FirstFaults
+pub mod Skips

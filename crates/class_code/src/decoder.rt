@@ -1,0 +1,70 @@
+ghost use Rattle.std.specs.Prelude.{◌≡◌, ◌<◌, ◌^◌, ℕ, List, length, IfOk, IfErr};
+ghost use Rattle.class_code.specs.declared.instr.Instr.{Instr};
+ghost use Rattle.class_code.specs.declared.fault.CodeFault.{CodeFault};
+ghost use Rattle.class_code.specs.Listing.{IsSpelled, IsListing};
+ghost use Rattle.class_code.specs.FirstFaults.{FirstFault, IfFault, Gives, Refuses, placed};
+
+use crate::fault::{CodeFault, InstrFault, Unread};
+use crate::instr::Instr;
+use crate::reading::instr_at;
+use crate::targets::first_astray;
+use std::alloc::Global;
+
+fn fault_at(why: InstrFault, at: u16, end: u16) -> CodeFault
+    ensures { result ≡ placed why at end }
+{
+    match why {
+        InstrFault::Floating => CodeFault::Floating(at),
+        InstrFault::Unsupported => CodeFault::Unsupported(at),
+        InstrFault::Truncated => CodeFault::Truncated(end),
+        InstrFault::BadOperand => CodeFault::BadOperand(at),
+    }
+}
+
+fn instrs_of(alloc: Global, code: &[u8]) -> Result<Vec<(u16, Instr)>, CodeFault>
+    requires { length code.now < 2 ^ 16 }
+    ensures found { IfOk result (λ v. IsSpelled code.now v.items) }
+    ensures fault { IfErr result (λ e. IfFault e (FirstFault code.now)) }
+{
+    let mut list = Vec::new(alloc);
+    let mut rest = code;
+    while !rest.is_empty() {
+        let at = code.len() - rest.len();
+        match instr_at(alloc, at, rest) {
+            Ok((instr, after)) => {
+                list.push((at as u16, instr))?;
+                rest = after;
+            }
+            Err(Unread::Memory) => return Err(CodeFault::Memory),
+            Err(Unread::Fault(why)) => return Err(fault_at(why, at as u16, code.len() as u16)),
+        }
+    }
+    Ok(list)
+}
+
+fn listing_of(alloc: Global, code: &[u8]) -> Result<Vec<(u16, Instr)>, CodeFault>
+    requires { length code.now < 2 ^ 16 }
+    ensures found { IfOk result (λ v. IsListing code.now v.items) }
+    ensures fault { IfErr result (λ e. IfFault e (FirstFault code.now)) }
+{
+    let list = instrs_of(alloc, code)?;
+    match first_astray(&list) {
+        Some(at) => Err(CodeFault::BadTarget(at)),
+        None => Ok(list),
+    }
+}
+
+/// The instructions of a code, each with its offset, or the first fault.
+pub fn decode(alloc: Global, code: &[u8]) -> Result<Vec<(u16, Instr)>, CodeFault>
+    requires { length code.now < 2 ^ 16 }
+    // What is decoded is the code's listing.
+    ensures found { IfOk result (λ v. IsListing code.now v.items) }
+    // A code that has a listing is decoded to it, unless memory runs out.
+    ensures only { (ps : List (ℕ × Instr)) → IsListing code.now ps → Gives (λ v. v.items) result ps }
+    // A fault is the first one.
+    ensures fault { IfErr result (λ e. IfFault e (FirstFault code.now)) }
+    // A code that has a first fault is refused for it, unless memory runs out.
+    ensures exact { (f : CodeFault) → FirstFault code.now f → Refuses result f }
+{
+    listing_of(alloc, code)
+}

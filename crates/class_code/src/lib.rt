@@ -1,0 +1,32 @@
+//! The instructions of a method's code (JVM specification, chapter 6), without floating point, and the one list of them that
+//! a code spells.
+//!
+//! `decode` answers that list, or the first fault of a code that has none; `length_at` answers how long one instruction is.
+//! Neither looks at the constant pool or at types: what the code alone does not tell to be wrong is accepted.
+//!
+//! The definitions in `specs/` are in the order of `specs/Lib.antt`: the opcodes (`Codes`), how an instruction is spelled
+//! and where it may stand (`Spelling`, `Ranges`), the list of a code (`Listing`), and the first fault (`Forms`, `Faults`,
+//! `FirstFaults`).
+#![tactic(auto)]
+
+mod decoder;
+mod fault;
+mod form;
+mod instr;
+mod lengths;
+mod number;
+mod operands;
+mod reading;
+mod switch;
+mod targets;
+
+pub use decoder::decode;
+pub use fault::CodeFault;
+pub use instr::{
+    Arithmetic, Branch, Condition, Conversion, Element, Instr, IntConst, Kind, LongConst,
+    LookupSwitch, Padding, PoolOp, Primitive, Simple, Slot, StackOp, TableSwitch, Width,
+};
+pub use lengths::length_at;
+
+#[cfg(test)]
+mod tests;
