@@ -1,6 +1,5 @@
 -- Where a fault stands at the front, reading answers that fault.
-use Rattle.std.proofs.Common.{◌≡◌, ◌≢◌, ◌⊎◌, inl, inr, ℕ, zero, suc, ◌+◌, ◌*◌, ◌<◌, ◌≤◌, Bool, true, false, cond, eqb, ltb, ℤ, pos, negsuc, ◌<ℤ◌, ◌≤ℤ◌, List, [], ◌∷◌, ◌++◌, length, Option, Some, None, Result, Ok, Err, refl, sym, ap, ◌∙◌, append_assoc, arith, w32, FitsSigned}
-use Rattle.std.specs.Prelude.{int_lt}
+use Rattle.std.proofs.Common.{◌≡◌, inl, inr, ℕ, zero, suc, ◌+◌, ◌*◌, ◌<◌, true, false, ltb, ℤ, pos, negsuc, List, [], ◌∷◌, ◌++◌, length, Option, Some, None, Err, refl, ap, ◌∙◌, append_assoc, arith}
 use Rattle.std.specs.List.{flat_map, AllByRecursion}
 use Rattle.std.proofs.lemmas.Bool.{lt-ltb, le-ltb, ne_eqb}
 use Rattle.class_code.specs.declared.fault.InstrFault.{InstrFault}
@@ -8,16 +7,13 @@ use Rattle.class_code.specs.declared.fault.InstrFault.TheVariants as instr_fault
 use Rattle.class_code.specs.declared.form.Form.{Form}
 use Rattle.class_code.specs.declared.form.Form.TheVariants as form
 use Rattle.class_code.specs.declared.instr.Padding.{Padding}
-use Rattle.class_code.specs.declared.instr.Instr.{Instr}
-use Rattle.class_code.specs.declared.instr.Instr.TheVariants as instr
-use Rattle.class_code.specs.Spelling.{s4, padding_len, pair_bytes, IsAbove, Rises}
+use Rattle.class_code.specs.Spelling.{padding_len, pair_bytes, Rises}
 use Rattle.class_code.specs.Ranges.{PairFits}
-use Rattle.class_code.specs.Forms.{IsForm}
-use Rattle.class_code.specs.Faults.{IsNotAbove, last_key, IsCut, PrimitiveFault, NewArrayFault, InterfaceFault, WidenedFault, WideFault, IsTableHead, TableRestFault, TableFault, IsLookupHead, PairFault, PairsFault, LookupRestFault, LookupFault, OperandsFault, FormFault, HeadFault}
-use Rattle.class_code.proofs.FormAt.{form_at, form_is}
+use Rattle.class_code.specs.Faults.{IsNotAbove, last_key, PrimitiveFault, NewArrayFault, InterfaceFault, WidenedFault, WideFault, TableRestFault, TableFault, PairFault, LookupRestFault, LookupFault, FormFault, HeadFault}
+use Rattle.class_code.proofs.FormAt.{form_is}
 use Rattle.class_code.proofs.Numbers.{lt_true, le_false, count_is}
-use Rattle.class_code.proofs.Take.{◌>>=◌, Read, take_u1, take_s1, take_u2, take_s2, take_s4, s4_again, u1_cut, s1_cut, u2_cut, s2_cut, s4_cut, take_words}
-use Rattle.class_code.proofs.ReadBack.{primitive_at, read_widened, read_wide, count_of, table_rest, read_table, above, above_true, take_pair, take_pairs, pair_again, lookup_rest, read_lookup, read_form, read_at, table_head_again, lookup_head_again}
+use Rattle.class_code.proofs.Take.{s4_again, u1_cut, s1_cut, u2_cut, s2_cut, s4_cut}
+use Rattle.class_code.proofs.ReadBack.{primitive_at, read_widened, read_wide, table_rest, read_table, above, above_true, take_pair, take_pairs, pair_again, lookup_rest, read_lookup, read_form, read_at, table_head_again, lookup_head_again}
 
 abbrev pub IsBytes : List ℕ → Type 0
 IsBytes bytes = AllByRecursion (λ b. b < 256) bytes

@@ -1,5 +1,5 @@
 -- The one form of each opcode.
-use Rattle.std.proofs.Common.{zero, suc, ◌≤◌, inl, inr, arith, ◌≡◌, ℕ, ◌+◌, ◌*◌, ◌<◌, Bool, true, false, cond, eqb, List, [], ◌∷◌, refl}
+use Rattle.std.proofs.Common.{zero, suc, inl, inr, arith, ◌≡◌, ℕ, ◌+◌, ◌*◌, ◌<◌, Bool, true, false, cond, eqb, List, [], ◌∷◌, refl}
 use Rattle.class_code.specs.declared.form.Form.{Form}
 use Rattle.class_code.specs.declared.form.Form.TheVariants as form
 use Rattle.class_code.specs.declared.instr.Simple.{Simple}
@@ -31,7 +31,7 @@ use Rattle.class_code.specs.declared.instr.PoolOp.TheVariants as pool_op
 use Rattle.std.specs.Prelude.{not, ◌&&◌, IsTrue, map, ◌++◌}
 use Rattle.std.specs.List.{list_all, flat_map}
 use Rattle.std.proofs.lemmas.Bool.{cases_lt}
-use Rattle.class_code.specs.Codes.{kind_place, width_place, slot_place, element_place, int_const_code, long_const_code, stack_code, arithmetic_code, conversion_code, condition_place, branch_code, pool_code, simple_code}
+use Rattle.class_code.specs.Codes.{kind_place, width_place, slot_place, element_place, int_const_code, long_const_code, stack_code, arithmetic_code, conversion_code, branch_code, pool_code, simple_code}
 use Rattle.class_code.specs.Forms.{is_floating, is_unsupported, IsForm}
 
 -- ---- all forms that an opcode of their own begins

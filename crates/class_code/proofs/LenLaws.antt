@@ -1,14 +1,13 @@
 -- How long an instruction is, from what is left after it.
-use Rattle.std.proofs.Common.{◌≡◌, ℕ, ◌+◌, ◌-◌, ◌≤◌, ◌<◌, ◌^◌, ℤ, pos, negsuc, false, ◌+ℤ◌, ◌≤ℤ◌, List, [], ◌∷◌, ◌++◌, length, length-append, append_assoc, arith, ap, ◌∙◌, Option, Result, Ok, Err, sym, refl, drop, FitsSigned, w32}
+use Rattle.std.proofs.Common.{◌≡◌, ℕ, ◌+◌, ◌-◌, ◌≤◌, ◌<◌, ◌^◌, ℤ, pos, negsuc, false, ◌≤ℤ◌, List, ◌∷◌, ◌++◌, length, length-append, append_assoc, arith, ap, ◌∙◌, Option, Ok, Err, sym, refl, FitsSigned, w32}
 use Rattle.std.specs.Prelude.{int_lt}
 use Rattle.std.proofs.Math.IntN.{nat_abs}
 use Rattle.std.specs.List.{flat_map}
 use Rattle.class_code.specs.declared.fault.InstrFault.{InstrFault}
-use Rattle.class_code.specs.declared.fault.InstrFault.TheVariants as instr_fault
 use Rattle.class_code.specs.declared.instr.Padding.{Padding}
 use Rattle.class_code.specs.declared.instr.Instr.{Instr}
 use Rattle.class_code.specs.declared.instr.Instr.TheVariants as instr
-use Rattle.class_code.specs.Spelling.{s4, padding_bytes, pair_bytes, spelling, Stands, table_bytes}
+use Rattle.class_code.specs.Spelling.{s4, padding_bytes, pair_bytes, spelling, Stands}
 use Rattle.class_code.specs.Ranges.{Fits}
 use Rattle.class_code.specs.Listing.{IsInstrAt}
 use Rattle.class_code.specs.Faults.{IsCount, IsTableHead, IsLookupHead, HeadFault}

@@ -1,15 +1,13 @@
 -- A code has one list of instructions or one first fault, and not both.
-use Rattle.std.proofs.Common.{◌≡◌, ◌⊎◌, inl, inr, ℕ, ◌+◌, ◌<◌, List, [], ◌∷◌, ◌++◌, length, Option, Some, None, Result, Ok, Err, refl, sym, ap, ◌∙◌, append_assoc, arith, subst, length-append, zero, drop, suc, get_or, w8, Fits as Fits8}
+use Rattle.std.proofs.Common.{◌≡◌, ◌⊎◌, inl, inr, ℕ, ◌+◌, List, [], ◌∷◌, ◌++◌, length, Some, None, Result, Ok, Err, refl, sym, ap, ◌∙◌, append_assoc, arith, subst, length-append, zero, drop, suc, get_or, w8, Fits as Fits8}
 use Rattle.std.specs.Prelude.{IfOk, IfErr}
 use Rattle.std.proofs.lemmas.List.{append-nil}
-use Rattle.std.specs.List.{flat_map, AllByRecursion}
 use Rattle.class_code.specs.declared.fault.InstrFault.{InstrFault}
 use Rattle.class_code.specs.declared.fault.InstrFault.TheVariants as instr_fault
 use Rattle.class_code.specs.declared.fault.CodeFault.{CodeFault}
 use Rattle.class_code.specs.declared.fault.CodeFault.TheVariants as fault
 use Rattle.class_code.specs.declared.instr.Instr.{Instr}
-use Rattle.class_code.specs.Spelling.{spelling, Stands}
-use Rattle.class_code.specs.Ranges.{Fits}
+use Rattle.class_code.specs.Spelling.{spelling}
 use Rattle.class_code.specs.Listing.{spelled, InPlace, IsSpelled, IsListing, astray}
 use Rattle.class_code.specs.Faults.{HeadFault}
 use Rattle.class_code.specs.FirstFaults.{StopsAt, FirstFault, placed, Gives, Refuses, IfFault}

@@ -1,5 +1,5 @@
 -- What the loops over a switch's entries keep.
-use Rattle.std.proofs.Common.{◌≡◌, ◌+◌, length, length-append, arith, FitsSigned, w32, ℕ, ◌+◌, length, length-append, add_assoc, arith, ℤ, List, [], ◌∷◌, ◌++◌, Option, Some, None, subst, refl, sym, ap, ◌∙◌, append_assoc, subst}
+use Rattle.std.proofs.Common.{◌≡◌, ◌+◌, length-append, arith, FitsSigned, w32, ℕ, ◌+◌, length-append, arith, ℤ, List, [], ◌∷◌, ◌++◌, Option, Some, None, subst, refl, sym, ap, ◌∙◌, append_assoc, subst}
 use Rattle.std.specs.List.{flat_map, AllByRecursion}
 use Rattle.std.proofs.lemmas.List.{append-nil}
 use Rattle.std.proofs.lemmas.List.Concat.{flat_map-append}

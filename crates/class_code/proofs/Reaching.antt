@@ -1,5 +1,5 @@
 -- The offsets of a list of instructions rise, and a search by halving finds the one that begins at an offset.
-use Rattle.std.proofs.Common.{◌≡◌, ℕ, zero, suc, ◌+◌, ◌≤◌, ◌<◌, ◌⊎◌, inl, inr, ℤ, pos, negsuc, List, [], ◌∷◌, length, Result, Ok, Err, true, false, sym, ap, arith}
+use Rattle.std.proofs.Common.{◌≡◌, ℕ, zero, suc, ◌+◌, ◌≤◌, ◌<◌, inl, inr, ℤ, pos, negsuc, List, [], ◌∷◌, length, Result, Ok, Err, sym, ap, arith}
 use Rattle.std.specs.Prelude.{is_ok, slice_index_or}
 use Rattle.std.specs.List.Sorted.{IsSearchInRange, IsBinarySearchResult, IsNonDecreasingBy}
 use Rattle.std.specs.Ordering.{int_cmp, int_eq, ordering_index, is_eq}

@@ -1,5 +1,5 @@
 -- The instruction that bytes begin with, by one function of them: what was spelled is read again.
-use Rattle.std.proofs.Common.{◌≡◌, ℕ, zero, suc, ◌+◌, ◌*◌, ◌^◌, ◌<◌, ◌≤◌, Bool, true, false, cond, eqb, ltb, ℤ, pos, negsuc, ◌+ℤ◌, ◌-ℤ◌, ◌<ℤ◌, ◌≤ℤ◌, List, [], ◌∷◌, ◌++◌, length, Option, Some, None, Result, Ok, Err, refl, sym, ap, ◌∙◌, append_assoc, arith, w32, FitsSigned, length-append, lit<}
+use Rattle.std.proofs.Common.{◌≡◌, ℕ, zero, suc, ◌+◌, ◌*◌, Bool, true, false, cond, eqb, ltb, ℤ, pos, negsuc, ◌+ℤ◌, ◌-ℤ◌, List, [], ◌∷◌, ◌++◌, length, Option, Some, None, Result, Ok, Err, refl, ap, ◌∙◌, append_assoc, arith, length-append, lit<}
 use Rattle.std.specs.Prelude.{int_lt}
 use Rattle.std.specs.List.{flat_map, AllByRecursion}
 use Rattle.std.proofs.Math.IntN.{nat_abs}
@@ -11,15 +11,14 @@ use Rattle.class_code.specs.declared.form.Form.TheVariants as form
 use Rattle.class_code.specs.declared.instr.Padding.{Padding}
 use Rattle.class_code.specs.declared.instr.Primitive.{Primitive}
 use Rattle.class_code.specs.declared.instr.Primitive.TheVariants as primitive
-use Rattle.class_code.specs.declared.instr.Kind.{Kind}
 use Rattle.class_code.specs.declared.instr.TableSwitch.{TableSwitch}
 use Rattle.class_code.specs.declared.instr.LookupSwitch.{LookupSwitch}
 use Rattle.class_code.specs.declared.instr.Instr.{Instr}
 use Rattle.class_code.specs.declared.instr.Instr.TheVariants as instr
-use Rattle.class_code.specs.Codes.{kind_place, primitive_code}
-use Rattle.class_code.specs.Spelling.{s1, u2, s2, s4, padding_bytes, padding_len, pair_bytes, IsAbove, Rises, IsTable, IsLookup, table_bytes, lookup_bytes, spelling, Stands}
+use Rattle.class_code.specs.Codes.{primitive_code}
+use Rattle.class_code.specs.Spelling.{s2, s4, padding_bytes, padding_len, pair_bytes, IsAbove, Rises, IsTable, IsLookup, table_bytes, lookup_bytes, spelling, Stands}
 use Rattle.class_code.specs.Ranges.{PairFits, TableFits, LookupFits, Fits}
-use Rattle.class_code.specs.Faults.{IsCount, IsTableHead, IsLookupHead}
+use Rattle.class_code.specs.Faults.{IsTableHead, IsLookupHead}
 use Rattle.class_code.proofs.Numbers.{lt_true, le_false, count_is, short_fits}
 use Rattle.class_code.proofs.FormAt.{form_at, simple_again, branch_again, pool_again, load_again, store_again, form_is}
 use Rattle.class_code.proofs.Take.{◌>>=◌, Read, take_u1, take_s1, take_u2, take_s2, take_s4, s1_again, u2_again, s2_again, s4_again, take_padding, padding_again, take_words, words_again}

@@ -1,5 +1,5 @@
 -- The operands' ranges (JVM specification 6.5): each is a number of its type. A number in a definition has no range of its own.
-use Rattle.std.specs.Prelude.{ℕ, ℤ, ◌<◌, ◌^◌, FitsSigned}
+use Rattle.std.specs.Prelude.{ℤ, ◌<◌, ◌^◌, FitsSigned}
 use Rattle.std.specs.Int.{w8, w16, w32}
 use Rattle.std.specs.List.{AllByRecursion}
 use Rattle.class_code.specs.declared.instr.TableSwitch.{TableSwitch}

@@ -10,6 +10,7 @@ use crate::reading::instr_at;
 use crate::targets::first_astray;
 use std::alloc::Global;
 
+/// The fault of an instruction at this offset, as the caller of `decode` sees it.
 fn fault_at(why: InstrFault, at: u16, end: u16) -> CodeFault
     ensures { result ≡ placed why at end }
 {
@@ -21,6 +22,7 @@ fn fault_at(why: InstrFault, at: u16, end: u16) -> CodeFault
     }
 }
 
+/// The instructions, whose targets nothing has looked at.
 fn instrs_of(alloc: Global, code: &[u8]) -> Result<Vec<(u16, Instr)>, CodeFault>
     requires { length code.now < 2 ^ 16 }
     ensures found { IfOk result (λ v. IsSpelled code.now v.items) }
@@ -42,6 +44,7 @@ fn instrs_of(alloc: Global, code: &[u8]) -> Result<Vec<(u16, Instr)>, CodeFault>
     Ok(list)
 }
 
+/// The instructions, or the first fault. That each code has one of the two alone is `decode`'s.
 fn listing_of(alloc: Global, code: &[u8]) -> Result<Vec<(u16, Instr)>, CodeFault>
     requires { length code.now < 2 ^ 16 }
     ensures found { IfOk result (λ v. IsListing code.now v.items) }
@@ -54,15 +57,23 @@ fn listing_of(alloc: Global, code: &[u8]) -> Result<Vec<(u16, Instr)>, CodeFault
     }
 }
 
-/// The instructions of a code, each with its offset, or the first fault.
+/// The instructions of a method's code, each with its offset in bytes, in the order of the code (JVM specification 4.7.3
+/// and 4.9.1).
+///
+/// Of several faults it answers the first: those of the instructions come in order of their offsets, and of two in one
+/// instruction that at the earlier byte; where a branch or a switch leads is looked at once all instructions are whole.
+/// `Memory` is answered only where an allocation failed. The time grows as that of sorting.
 pub fn decode(alloc: Global, code: &[u8]) -> Result<Vec<(u16, Instr)>, CodeFault>
     requires { length code.now < 2 ^ 16 }
-    // What is decoded is the code's listing.
+    // What is decoded is the code's list.
     ensures found { IfOk result (λ v. IsListing code.now v.items) }
-    // A code that has a listing is decoded to it, unless memory runs out.
+
+    // A code that has a list is decoded to it, unless memory runs out.
     ensures only { (ps : List (ℕ × Instr)) → IsListing code.now ps → Gives (λ v. v.items) result ps }
-    // A fault is the first one.
+
+    // A fault is the code's first.
     ensures fault { IfErr result (λ e. IfFault e (FirstFault code.now)) }
+
     // A code that has a first fault is refused for it, unless memory runs out.
     ensures exact { (f : CodeFault) → FirstFault code.now f → Refuses result f }
 {

@@ -10,6 +10,7 @@ use crate::number::{s4_at, u1_at};
 use crate::operands::operands;
 use crate::switch::{entry_count, lookup_head, pair_at, table_head};
 
+/// Skips numbers of four bytes.
 fn skip_words(count: usize, bytes: &[u8]) -> Result<&[u8], InstrFault>
     ensures found { IfOk result (λ after. SkipsWords count bytes.now after.now) }
     ensures fault { IfErr result (IsCut (4 * count) bytes.now) }
@@ -22,6 +23,7 @@ fn skip_words(count: usize, bytes: &[u8]) -> Result<&[u8], InstrFault>
     Ok(rest)
 }
 
+/// Skips what follows the opcode of a `tableswitch`.
 fn skip_table(at: usize, bytes: &[u8]) -> Result<&[u8], InstrFault>
     ensures found { IfOk result (λ after. SkipsTable at bytes.now after.now) }
     ensures fault { IfErr result (TableFault at bytes.now) }
@@ -32,6 +34,7 @@ fn skip_table(at: usize, bytes: &[u8]) -> Result<&[u8], InstrFault>
     Ok(after)
 }
 
+/// Skips the pairs of a `lookupswitch`.
 fn skip_pairs(count: usize, bytes: &[u8]) -> Result<&[u8], InstrFault>
     ensures found { IfOk result (λ after. (last : Option ℤ) × SkipsPairs count last bytes.now after.now) }
     ensures fault { IfErr result (PairsFault count bytes.now) }
@@ -46,6 +49,7 @@ fn skip_pairs(count: usize, bytes: &[u8]) -> Result<&[u8], InstrFault>
     Ok(rest)
 }
 
+/// Skips what follows the opcode of a `lookupswitch`.
 fn skip_lookup(at: usize, bytes: &[u8]) -> Result<&[u8], InstrFault>
     ensures found { IfOk result (λ after. SkipsLookup at bytes.now after.now) }
     ensures fault { IfErr result (LookupFault at bytes.now) }
@@ -58,6 +62,7 @@ fn skip_lookup(at: usize, bytes: &[u8]) -> Result<&[u8], InstrFault>
     Ok(after)
 }
 
+/// How long a `tableswitch` is, from what follows its opcode.
 fn table_len(at: usize, bytes: &[u8]) -> Result<usize, InstrFault>
     ensures found { IfOk result (IsInstrAt at (0xaa ∷ bytes.now)) }
     ensures within { IfOk result (λ n. n ≤ length bytes.now + 1) }
@@ -67,6 +72,7 @@ fn table_len(at: usize, bytes: &[u8]) -> Result<usize, InstrFault>
     Ok(1 + (bytes.len() - after.len()))
 }
 
+/// How long a `lookupswitch` is, from what follows its opcode.
 fn lookup_len(at: usize, bytes: &[u8]) -> Result<usize, InstrFault>
     ensures found { IfOk result (IsInstrAt at (0xab ∷ bytes.now)) }
     ensures within { IfOk result (λ n. n ≤ length bytes.now + 1) }
@@ -76,6 +82,7 @@ fn lookup_len(at: usize, bytes: &[u8]) -> Result<usize, InstrFault>
     Ok(1 + (bytes.len() - after.len()))
 }
 
+/// How long the instruction of this opcode is, where that does not depend on where it stands.
 fn plain_len(at: usize, opcode: u8, form: Form, bytes: &[u8]) -> Result<usize, InstrFault>
     requires form { IsForm opcode form }
     requires plain { IsPlain form }
@@ -87,6 +94,7 @@ fn plain_len(at: usize, opcode: u8, form: Form, bytes: &[u8]) -> Result<usize, I
     Ok(1 + (bytes.len() - after.len()))
 }
 
+/// How long the instruction at the front of these bytes is, whose first has this offset.
 fn instr_len(at: usize, bytes: &[u8]) -> Result<usize, InstrFault>
     requires { 0 < length bytes.now }
     ensures found { IfOk result (IsInstrAt at bytes.now) }
@@ -101,10 +109,14 @@ fn instr_len(at: usize, bytes: &[u8]) -> Result<usize, InstrFault>
     }
 }
 
-/// How many bytes the instruction at an offset takes, if a whole one stands there.
+/// How many bytes the instruction at an offset takes, if a whole one begins there; the offset need not be one of those
+/// that `decode` lists. Where a branch leads is not looked at. The time grows with the instruction's length.
 pub fn length_at(code: &[u8], at: u16) -> Option<u32>
     requires { length code.now < 2 ^ 16 }
+    // It is the length of one that stands there.
     ensures found { IfSome result (IsInstrAt at (drop at code.now)) }
+
+    // Where there is no answer, none stands there.
     ensures none { IfNone result ((n : ℕ) → IsInstrAt at (drop at code.now) n → ⊥) }
 {
     let at = at as usize;

@@ -5,6 +5,7 @@ ghost use Rattle.std.specs.Int.{w8, w16, w32, to_be_bytes};
 
 use crate::fault::InstrFault;
 
+/// An unsigned number of one byte, and the bytes after it. The others are alike: `s` has a sign, the number of bytes is last.
 pub fn u1_at(bytes: &[u8]) -> Result<(u8, &[u8]), InstrFault>
     ensures found { IfOk result (λ x. bytes.now ≡ x.0 ∷ x.1.now) }
     ensures range { IfOk result (λ x. x.0 < 256) }

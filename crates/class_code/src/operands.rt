@@ -1,5 +1,5 @@
-ghost use Rattle.std.specs.Prelude.{◌≡◌, ℕ, ◌∷◌, ◌++◌, IfOk, IfErr};
-ghost use Rattle.class_code.specs.Codes.{primitive_code};
+ghost use Rattle.std.specs.Prelude.{◌≡◌, ℕ, ◌+◌, ◌∷◌, ◌++◌, IfOk, IfErr};
+ghost use Rattle.class_code.specs.Codes.{kind_place, primitive_code};
 ghost use Rattle.class_code.specs.Spelling.{spelling, Stands};
 ghost use Rattle.class_code.specs.Ranges.{Fits};
 ghost use Rattle.class_code.specs.Forms.{IsForm};
@@ -8,9 +8,56 @@ ghost use Rattle.class_code.specs.Skips.{IsPlain};
 
 use crate::fault::InstrFault;
 use crate::form::{Form, form_of};
-use crate::instr::{Instr, Primitive};
+use crate::instr::{Instr, Kind, Primitive};
 use crate::number::{s1_at, s2_at, s4_at, u1_at, u2_at};
 
+/// A load behind its opcode, that of `iload`, `lload` or `aload`.
+fn load(kind: Kind, bytes: &[u8]) -> Result<(Instr, &[u8]), InstrFault>
+    ensures found { IfOk result (λ x. (0x15 + kind_place kind) ∷ bytes.now ≡ spelling x.0 ++ x.1.now) }
+    ensures fits { IfOk result (λ x. Fits x.0) }
+    ensures stands { IfOk result (λ x. (at : ℕ) → Stands at x.0) }
+    ensures fault { IfErr result (OperandsFault (Form.Load kind) bytes.now) }
+{
+    let (local, rest) = u1_at(bytes)?;
+    Ok((Instr::Load(kind, local), rest))
+}
+
+/// A store behind its opcode, that of `istore`, `lstore` or `astore`.
+fn store(kind: Kind, bytes: &[u8]) -> Result<(Instr, &[u8]), InstrFault>
+    ensures found { IfOk result (λ x. (0x36 + kind_place kind) ∷ bytes.now ≡ spelling x.0 ++ x.1.now) }
+    ensures fits { IfOk result (λ x. Fits x.0) }
+    ensures stands { IfOk result (λ x. (at : ℕ) → Stands at x.0) }
+    ensures fault { IfErr result (OperandsFault (Form.Store kind) bytes.now) }
+{
+    let (local, rest) = u1_at(bytes)?;
+    Ok((Instr::Store(kind, local), rest))
+}
+
+/// `iinc` behind its opcode.
+fn increment(bytes: &[u8]) -> Result<(Instr, &[u8]), InstrFault>
+    ensures found { IfOk result (λ x. 0x84 ∷ bytes.now ≡ spelling x.0 ++ x.1.now) }
+    ensures fits { IfOk result (λ x. Fits x.0) }
+    ensures stands { IfOk result (λ x. (at : ℕ) → Stands at x.0) }
+    ensures fault { IfErr result (OperandsFault Form.Increment bytes.now) }
+{
+    let (local, rest) = u1_at(bytes)?;
+    let (by, rest) = s1_at(rest)?;
+    Ok((Instr::Increment(local, by), rest))
+}
+
+/// `multianewarray` behind its opcode.
+fn multi_new_array(bytes: &[u8]) -> Result<(Instr, &[u8]), InstrFault>
+    ensures found { IfOk result (λ x. 0xc5 ∷ bytes.now ≡ spelling x.0 ++ x.1.now) }
+    ensures fits { IfOk result (λ x. Fits x.0) }
+    ensures stands { IfOk result (λ x. (at : ℕ) → Stands at x.0) }
+    ensures fault { IfErr result (OperandsFault Form.MultiNewArray bytes.now) }
+{
+    let (index, rest) = u2_at(bytes)?;
+    let (dimensions, rest) = u1_at(rest)?;
+    Ok((Instr::MultiNewArray(index, dimensions), rest))
+}
+
+/// What the elements of a `newarray` of this code are.
 fn primitive_of(code: u8) -> Result<Primitive, InstrFault>
     ensures found { IfOk result (λ p. code ≡ primitive_code p) }
     ensures fault { IfErr result (PrimitiveFault code) }
@@ -27,6 +74,7 @@ fn primitive_of(code: u8) -> Result<Primitive, InstrFault>
     }
 }
 
+/// `invokeinterface` behind its opcode.
 fn interface_call(bytes: &[u8]) -> Result<(Instr, &[u8]), InstrFault>
     ensures found { IfOk result (λ x. 0xb9 ∷ bytes.now ≡ spelling x.0 ++ x.1.now) }
     ensures fits { IfOk result (λ x. Fits x.0) }
@@ -35,13 +83,14 @@ fn interface_call(bytes: &[u8]) -> Result<(Instr, &[u8]), InstrFault>
 {
     let (index, rest) = u2_at(bytes)?;
     let (count, rest) = u1_at(rest)?;
-    let (zero, rest) = u1_at(rest)?;
-    if zero != 0 {
+    let (fourth, rest) = u1_at(rest)?;
+    if fourth != 0 {
         return Err(InstrFault::BadOperand);
     }
     Ok((Instr::InvokeInterface(index, count), rest))
 }
 
+/// `newarray` behind its opcode.
 fn new_array(bytes: &[u8]) -> Result<(Instr, &[u8]), InstrFault>
     ensures found { IfOk result (λ x. 0xbc ∷ bytes.now ≡ spelling x.0 ++ x.1.now) }
     ensures fits { IfOk result (λ x. Fits x.0) }
@@ -53,6 +102,7 @@ fn new_array(bytes: &[u8]) -> Result<(Instr, &[u8]), InstrFault>
     Ok((Instr::NewArray(of), rest))
 }
 
+/// What `wide` widens, behind the opcode of `wide`.
 fn wide(bytes: &[u8]) -> Result<(Instr, &[u8]), InstrFault>
     ensures found { IfOk result (λ x. 0xc4 ∷ bytes.now ≡ spelling x.0 ++ x.1.now) }
     ensures fits { IfOk result (λ x. Fits x.0) }
@@ -62,17 +112,17 @@ fn wide(bytes: &[u8]) -> Result<(Instr, &[u8]), InstrFault>
     let (opcode, rest) = u1_at(bytes)?;
     match form_of(opcode) {
         Form::Load(kind) => {
-            let (place, rest) = u2_at(rest)?;
-            Ok((Instr::LoadWide(kind, place), rest))
+            let (local, rest) = u2_at(rest)?;
+            Ok((Instr::LoadWide(kind, local), rest))
         }
         Form::Store(kind) => {
-            let (place, rest) = u2_at(rest)?;
-            Ok((Instr::StoreWide(kind, place), rest))
+            let (local, rest) = u2_at(rest)?;
+            Ok((Instr::StoreWide(kind, local), rest))
         }
         Form::Increment => {
-            let (place, rest) = u2_at(rest)?;
+            let (local, rest) = u2_at(rest)?;
             let (by, rest) = s2_at(rest)?;
-            Ok((Instr::IncrementWide(place, by), rest))
+            Ok((Instr::IncrementWide(local, by), rest))
         }
         Form::Floating => Err(InstrFault::Floating),
         Form::Unsupported => Err(if opcode == 0xa9 {
@@ -84,7 +134,7 @@ fn wide(bytes: &[u8]) -> Result<(Instr, &[u8]), InstrFault>
     }
 }
 
-/// The instruction of an opcode whose operands don't depend on where it stands.
+/// The instruction of this opcode and the bytes after it, where its operands do not depend on where it stands.
 pub fn operands(opcode: u8, form: Form, bytes: &[u8]) -> Result<(Instr, &[u8]), InstrFault>
     requires form { IsForm opcode form }
     requires plain { IsPlain form }
@@ -107,19 +157,9 @@ pub fn operands(opcode: u8, form: Form, bytes: &[u8]) -> Result<(Instr, &[u8]), 
             let (index, rest) = u1_at(bytes)?;
             Ok((Instr::LoadConst(index), rest))
         }
-        Form::Load(kind) => {
-            let (place, rest) = u1_at(bytes)?;
-            Ok((Instr::Load(kind, place), rest))
-        }
-        Form::Store(kind) => {
-            let (place, rest) = u1_at(bytes)?;
-            Ok((Instr::Store(kind, place), rest))
-        }
-        Form::Increment => {
-            let (place, rest) = u1_at(bytes)?;
-            let (by, rest) = s1_at(rest)?;
-            Ok((Instr::Increment(place, by), rest))
-        }
+        Form::Load(kind) => load(kind, bytes),
+        Form::Store(kind) => store(kind, bytes),
+        Form::Increment => increment(bytes),
         Form::Branch(when) => {
             let (by, rest) = s2_at(bytes)?;
             Ok((Instr::Branch(when, by), rest))
@@ -134,11 +174,7 @@ pub fn operands(opcode: u8, form: Form, bytes: &[u8]) -> Result<(Instr, &[u8]), 
         }
         Form::InvokeInterface => interface_call(bytes),
         Form::NewArray => new_array(bytes),
-        Form::MultiNewArray => {
-            let (index, rest) = u2_at(bytes)?;
-            let (dimensions, rest) = u1_at(rest)?;
-            Ok((Instr::MultiNewArray(index, dimensions), rest))
-        }
+        Form::MultiNewArray => multi_new_array(bytes),
         Form::Wide => wide(bytes),
         Form::TableSwitch | Form::LookupSwitch => unreachable!(),
         Form::Unsupported => Err(InstrFault::Unsupported),

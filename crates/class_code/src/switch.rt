@@ -12,6 +12,7 @@ use crate::number::s4_at;
 use sqlite_items::Items;
 use std::alloc::Global;
 
+/// The bytes between the opcode at this offset and the next multiple of four.
 fn padding_at(at: usize, bytes: &[u8]) -> Result<(Padding, &[u8]), InstrFault>
     ensures found { IfOk result (λ x. (bytes.now ≡ padding_bytes x.0 ++ x.1.now) × (length (padding_bytes x.0) ≡ padding_len at)) }
     ensures rest { IfOk result (λ x. length x.1.now + padding_len at ≡ length bytes.now) }
@@ -26,6 +27,7 @@ fn padding_at(at: usize, bytes: &[u8]) -> Result<(Padding, &[u8]), InstrFault>
     }
 }
 
+/// The padding, the default, the low and the high bound of a `tableswitch`.
 pub fn table_head(at: usize, bytes: &[u8]) -> Result<(Padding, i32, i32, i32, &[u8]), InstrFault>
     ensures found { IfOk result (λ x. IsTableHead at bytes.now x.0 x.1 x.2 x.3 x.4.now) }
     ensures cut { IfErr result (IsCut (padding_len at + 12) bytes.now) }
@@ -37,16 +39,18 @@ pub fn table_head(at: usize, bytes: &[u8]) -> Result<(Padding, i32, i32, i32, &[
     Ok((padding, default, low, high, rest))
 }
 
+/// How many offsets a `tableswitch` of these bounds has.
 pub fn entry_count(low: i32, high: i32) -> Result<usize, InstrFault>
     ensures count { IfOk result (λ n. (low ≤ℤ high) × IsCount low high n) }
-    ensures bad { IfErr result (λ w. (high <ℤ low) × (w ≡ InstrFault.BadOperand)) }
+    ensures bad { IfErr result (λ why. (high <ℤ low) × (why ≡ InstrFault.BadOperand)) }
 {
     if high < low {
         return Err(InstrFault::BadOperand);
     }
-    Ok((high as i64 - low as i64 + 1) as usize)
+    Ok((i64::from(high) - i64::from(low) + 1) as usize)
 }
 
+/// The padding, the default and the count of a `lookupswitch`.
 pub fn lookup_head(at: usize, bytes: &[u8]) -> Result<(Padding, i32, i32, &[u8]), InstrFault>
     ensures found { IfOk result (λ x. IsLookupHead at bytes.now x.0 x.1 x.2 x.3.now) }
     ensures cut { IfErr result (IsCut (padding_len at + 8) bytes.now) }
@@ -73,6 +77,7 @@ fn offsets_at(alloc: Global, count: usize, bytes: &[u8]) -> Result<(Items<i32>, 
     Ok((Items::from_vec(offsets), rest))
 }
 
+/// `tableswitch` behind its opcode, which has this offset.
 pub fn table_switch(alloc: Global, at: usize, bytes: &[u8]) -> Result<(Instr, &[u8]), Unread>
     ensures found { IfOk result (λ x. (0xaa ∷ bytes.now ≡ spelling x.0 ++ x.1.now) × Stands at x.0) }
     ensures fits { IfOk result (λ x. Fits x.0) }
@@ -91,6 +96,7 @@ pub fn table_switch(alloc: Global, at: usize, bytes: &[u8]) -> Result<(Instr, &[
     Ok((Instr::TableSwitch(switch), rest))
 }
 
+/// A key, which is above the one before, and its offset.
 pub fn pair_at(last: Option<i32>, bytes: &[u8]) -> Result<(i32, i32, &[u8]), InstrFault>
     ensures found { IfOk result (λ x. (bytes.now ≡ pair_bytes (x.0, x.1) ++ x.2.now) × IsAbove last x.0) }
     ensures fits { IfOk result (λ x. PairFits (x.0, x.1)) }
@@ -124,6 +130,7 @@ fn pairs_at(alloc: Global, count: usize, bytes: &[u8]) -> Result<(Items<(i32, i3
     Ok((Items::from_vec(pairs), rest))
 }
 
+/// `lookupswitch` behind its opcode, which has this offset.
 pub fn lookup_switch(alloc: Global, at: usize, bytes: &[u8]) -> Result<(Instr, &[u8]), Unread>
     ensures found { IfOk result (λ x. (0xab ∷ bytes.now ≡ spelling x.0 ++ x.1.now) × Stands at x.0) }
     ensures fits { IfOk result (λ x. Fits x.0) }

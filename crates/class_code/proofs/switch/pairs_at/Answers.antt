@@ -1,4 +1,4 @@
-use Rattle.std.proofs.Common.{◌≡◌, ℤ, w32, to_z, of_z, rules, arith, ap, ◌∷◌, [], ◌++◌, None, Some, length, length-append, List, refl}
+use Rattle.std.proofs.Common.{◌≡◌, ℤ, w32, to_z, of_z, rules, arith, ◌∷◌, [], ◌++◌, None, length-append, refl}
 use Rattle.std.proofs.lemmas.Result.{err_from_is_err_and}
 use Rattle.class_code.specs.Spelling.{pair_bytes}
 use Rattle.class_code.specs.Ranges.{PairFits}
