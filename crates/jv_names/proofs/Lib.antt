@@ -1,2 +1,4 @@
 pub mod ClassNames
 pub mod Printing
+pub mod TextFronts
+pub mod UnitBytes
