@@ -1,6 +1,6 @@
 -- A class name, unit by unit.
-use Rattle.std.proofs.Common.{◌+◌, drop, get_or, add-one, drop-cons, ◌≡◌, ◌≢◌, ℕ, ◌≤◌, ◌<◌, Bool, true, false, not, ◌&&◌, eqb, List, [], ◌∷◌, length, refl, ◌∙◌, arith}
-use Rattle.std.proofs.lemmas.List.{drop_all}
+use Rattle.std.proofs.Common.{◌+◌, drop, get_or, add-one, drop-cons, ◌≡◌, ◌≢◌, ℕ, ◌≤◌, ◌<◌, Bool, true, false, not, ◌&&◌, eqb, List, [], ◌∷◌, length, map, refl, sym, ap, ◌∙◌, arith}
+use Rattle.std.proofs.lemmas.List.{drop_all, get_or-map}
 use Rattle.std.specs.List.{list_all}
 use Rattle.std.proofs.lemmas.Bool.Decides.{nat_tests}
 use Rattle.jv_names.specs.Names.{onto, parts, is_part, is_part_unit, is_class_name}
@@ -88,3 +88,7 @@ bad_at text i b h ne bad = at_head text i b h ∙ named_bad (get_or text i 0) (d
 
 pub end_at : (text : List ℕ) (i : ℕ) (b : Bool) → length text ≤ i → rest_named b (drop i text) ≡ b
 end_at text i b h = rw (drop_all i text h) (named_end b)
+
+-- the unit of the letter at a place
+pub letter_at : {X : Type 0} (f : X → ℕ) (text : List X) (i : ℕ) (letter : X) → i < length text → letter ≡ get_or text i letter → get_or (map f text) i 0 ≡ f letter
+letter_at f text i letter h is = get_or-map f text i letter 0 h ∙ ap f (sym is)

@@ -10,12 +10,6 @@ two unit = (0xc0 + unit / 64) ∷ (0x80 + unit % 64) ∷ []
 abbrev pub three : ℕ → List ℕ
 three unit = (0xe0 + unit / 4096) ∷ (0x80 + unit / 64 % 64) ∷ (0x80 + unit % 64) ∷ []
 
-abbrev pub IsOne : ℕ → Type 0
-IsOne unit = (1 ≤ unit) × (unit ≤ 0x7f)
-
-abbrev pub IsTwo : ℕ → Type 0
-IsTwo unit = ((unit ≡ 0) ⊎ (0x80 ≤ unit)) × (unit ≤ 0x7ff)
-
 pub one_bytes : (unit : ℕ) → 1 ≤ unit → unit ≤ 0x7f → unit_bytes unit ≡ unit ∷ []
 unfolding unit_bytes
 one_bytes unit low high = let l : leb 1 unit ≡ true = grind (arith, nat_tests) in let h : leb unit 0x7f ≡ true = grind (arith, nat_tests) in rw (l, h) refl

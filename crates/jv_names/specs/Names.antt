@@ -1,6 +1,7 @@
 -- Names: JVM specification 4.2. A text is the list of its UTF-16 units.
-use Rattle.std.specs.Prelude.{ℕ, List, [], ◌∷◌, ◌+◌, ◌/◌, ◌%◌, Bool, false, not, ◌&&◌, ◌==◌, nat_lt, nat_le, if◌then◌else◌, flat_map}
+use Rattle.std.specs.Prelude.{ℕ, List, [], ◌∷◌, ◌+◌, ◌/◌, ◌%◌, Bool, false, not, ◌&&◌, ◌||◌, ◌==◌, nat_lt, nat_le, if◌then◌else◌, length, flat_map, codes}
 use Rattle.std.specs.List.{list_all}
+use Rattle.std.specs.Cmp.Lexicographic.{pointwise}
 
 abbrev pub Name : Type 0
 Name = List ℕ
@@ -26,6 +27,26 @@ is_part (unit ∷ units) = list_all is_part_unit (unit ∷ units)
 -- section 4.2.1, in internal form: parts that are not empty, with `/` between them
 abbrev pub is_class_name : Name → Bool
 is_class_name name = list_all is_part (parts 47 name)
+
+-- none of `.`, `;`, `[` and `/`
+abbrev pub is_member_unit : ℕ → Bool
+is_member_unit unit = is_part_unit unit && not (unit == 47)
+
+-- section 4.2.2: the unqualified name of a field or a local variable, which is not empty
+abbrev pub is_member_name : Name → Bool
+is_member_name name = not (length name == 0) && list_all is_member_unit name
+
+-- none of `<` and `>`
+abbrev pub is_method_unit : ℕ → Bool
+is_method_unit unit = not (unit == 60) && not (unit == 62)
+
+-- section 2.9: what initializes an instance, and a class
+abbrev pub is_special_name : Name → Bool
+is_special_name name = pointwise ◌==◌ name (codes "<init>") || pointwise ◌==◌ name (codes "<clinit>")
+
+-- section 4.2.2: the unqualified name of a method
+abbrev pub is_method_name : Name → Bool
+is_method_name name = is_special_name name || (is_member_name name && list_all is_method_unit name)
 
 -- ---- how names are printed
 

@@ -1,5 +1,7 @@
 ghost use Rattle.std.specs.Prelude.{◌≡◌, ◌↔◌, IfOk, IsTrue};
+ghost use Rattle.jv_names.specs.Names.{is_class_name as names_class, is_member_name as names_member, is_method_name as names_method, is_special_name as names_special};
 
+use crate::name::{are_member_units, are_method_units, has_class_form};
 use std::alloc::{AllocError, Global};
 use std::marker::Model;
 
@@ -68,6 +70,36 @@ impl Units {
         self.units.as_slice() == other.units.as_slice()
     }
 
+    /// Whether the text is a class's name in internal form: parts that are not empty, with `/` between them, and in them
+    /// none of `.`, `;` and `[` (JVM specification 4.2.1 and 4.2.2).
+    pub fn is_class_name(&self) -> bool
+        ensures { result ≡ names_class self.now }
+    {
+        has_class_form(self.units.as_slice())
+    }
+
+    /// Whether the text may be a field's name: it is not empty and has none of `.`, `;`, `[` and `/` (JVM specification
+    /// 4.2.2).
+    pub fn is_member_name(&self) -> bool
+        ensures { result ≡ names_member self.now }
+    {
+        !self.units.is_empty() && are_member_units(&self.units)
+    }
+
+    /// Whether the text may be a method's name: a field's name without `<` and `>`, or one of `<init>` and `<clinit>` (JVM
+    /// specification 4.2.2).
+    pub fn is_method_name(&self) -> bool
+        ensures { result ≡ names_method self.now }
+    {
+        self.is_special_name() || (self.is_member_name() && are_method_units(&self.units))
+    }
+
+    fn is_special_name(&self) -> bool
+        ensures { result ≡ names_special self.now }
+    {
+        self.is_text(b"<init>") || self.is_text(b"<clinit>")
+    }
+
     /// Whether the units are these bytes, one for one.
     pub fn is_text(&self, bytes: &[u8]) -> bool
         ensures { IsTrue result ↔ (self.now ≡ bytes.now) }
@@ -100,6 +132,40 @@ mod tests {
         }
         let back = Units::from_ascii(alloc, b"Add")?.into_vec();
         assert_eq!(rt; back.as_slice(), [65, 100, 100].as_slice());
+        Ok(())
+    }
+
+    /// Texts, and whether JVM specification 4.2.1 and 4.2.2 let each be the name of a class, a field and a method.
+    #[test]
+    fn names_classes_and_members(rt: HostRuntime) -> Result<(), AllocError> {
+        let alloc = rt.alloc();
+        let cases = [
+            ("", [false, false, false]),
+            ("Add", [true, true, true]),
+            ("a/b", [true, false, false]),
+            ("a//b", [false, false, false]),
+            ("/", [false, false, false]),
+            ("a.b", [false, false, false]),
+            ("a;", [false, false, false]),
+            ("[I", [false, false, false]),
+            ("<init>", [true, true, true]),
+            ("<clinit>", [true, true, true]),
+            ("<x>", [true, true, false]),
+            ("a<b", [true, true, false]),
+            ("a>", [true, true, false]),
+        ];
+        for (text, wanted) in cases {
+            let name = Units::from_ascii(alloc, text.as_bytes())?;
+            let found = [
+                name.is_class_name(),
+                name.is_member_name(),
+                name.is_method_name(),
+            ];
+            assert_eq!(rt; found, wanted, "at {text}");
+        }
+        // Each has the low byte of a `/` or a `<`.
+        let name = Units::new(vec![in alloc; 0x12f, 0x13c]?);
+        assert!(rt; name.is_class_name() && name.is_member_name() && name.is_method_name());
         Ok(())
     }
 }

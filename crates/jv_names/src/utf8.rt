@@ -26,7 +26,7 @@ impl From<AllocError> for TextFault {
     }
 }
 
-/// The six bits of a byte that doesn't begin a unit.
+/// The six bits of a byte `10xxxxxx`, which goes on with a unit.
 fn bits_of(byte: u8) -> Option<u16>
     ensures { MatchOption result ((byte < 0x80) ⊎ (0xc0 ≤ byte)) (λ bits. (bits < 64) × (byte ≡ 0x80 + bits)) }
 {
@@ -93,8 +93,9 @@ fn front_units(alloc: Global, bytes: &[u8]) -> Result<(Vec<u16>, &[u8]), AllocEr
     Ok((units, rest))
 }
 
-/// The text that bytes spell in modified UTF-8 (JVM specification 4.4.7). A supplementary character is two surrogates of
-/// three bytes each, a lone surrogate is a unit as any other, U+0000 is `c0 80`, and no unit is spelled longer than that.
+/// The text that bytes spell in modified UTF-8 (JVM specification 4.4.7), as its UTF-16 units. A supplementary character is
+/// spelled as its two surrogates, of three bytes each, and a lone surrogate is a unit as any other. U+0000 is `c0 80`, and
+/// any other unit that is spelled in more bytes than it needs is refused.
 pub fn units_of(alloc: Global, bytes: &[u8]) -> Result<Units, TextFault>
     // What is read is spelled so.
     ensures found { IfOk result (λ units. SpellsText units bytes.now) }
@@ -116,6 +117,7 @@ pub fn units_of(alloc: Global, bytes: &[u8]) -> Result<Units, TextFault>
     }
 }
 
+/// Puts a unit's bytes behind those that are there.
 #[tactic(auto, unfolding(crate::specs::Utf8::unit_bytes))]
 fn put_unit(bytes: &mut Vec<u8>, unit: u16) -> Result<(), AllocError>
     ensures { OnOk result (bytes.new.items ≡ bytes.old.items ++ unit_bytes unit) }
@@ -142,4 +144,61 @@ pub fn utf8_of(alloc: Global, units: &Units) -> Result<Vec<u8>, AllocError>
         put_unit(&mut bytes, *unit)?;
     }
     Ok(bytes)
+}
+
+#[cfg(test)]
+mod tests {
+    use super::*;
+
+    /// Texts, and their bytes by the rules of JVM specification 4.4.7.
+    #[test]
+    fn reads_and_writes_texts(rt: HostRuntime) -> Result<(), TextFault> {
+        let alloc = rt.alloc();
+        let cases: [(&[u16], &[u8]); 11] = [
+            (&[], &[]),
+            (&[0x41, 0x7f], &[0x41, 0x7f]),
+            (&[0], &[0xc0, 0x80]),
+            (&[0x80], &[0xc2, 0x80]),
+            (&[0xe9], &[0xc3, 0xa9]),
+            (&[0x7ff], &[0xdf, 0xbf]),
+            (&[0x800], &[0xe0, 0xa0, 0x80]),
+            (&[0xffff], &[0xef, 0xbf, 0xbf]),
+            (&[0xd83d, 0xde00], &[0xed, 0xa0, 0xbd, 0xed, 0xb8, 0x80]),
+            (&[0xde00, 0x41], &[0xed, 0xb8, 0x80, 0x41]),
+            (&[0x41, 0, 0xe9], &[0x41, 0xc0, 0x80, 0xc3, 0xa9]),
+        ];
+        for (units, bytes) in cases {
+            let text = Units::new(Vec::from_slice(alloc, units)?);
+            assert_eq!(rt; utf8_of(alloc, &text)?.as_slice(), bytes);
+            assert_eq!(rt; units_of(alloc, bytes)?.as_slice(), units);
+        }
+        Ok(())
+    }
+
+    /// Bytes that JVM specification 4.4.7 gives no text, and where.
+    #[test]
+    fn refuses_bad_bytes(rt: HostRuntime) {
+        let alloc = rt.alloc();
+        let cases: [(&[u8], usize); 12] = [
+            (&[0], 0),
+            (&[0xc0, 0x81], 0),
+            (&[0xc1, 0x81], 0),
+            (&[0xc0], 0),
+            (&[0x80], 0),
+            (&[0xe0, 0x80, 0x80], 0),
+            (&[0xe0, 0x9f, 0xbf], 0),
+            (&[0xf0, 0x9f, 0x98, 0x80], 0),
+            (&[0xed, 0xa0], 0),
+            (&[0xc3, 0x28], 0),
+            (&[0x41, 0xc0, 0x80, 0xc1, 0x81], 3),
+            (&[0xed, 0xa0, 0xbd, 0x41, 0xff], 4),
+        ];
+        for (bytes, offset) in cases {
+            let read = units_of(alloc, bytes);
+            assert!(rt;
+                matches!(read, Err(TextFault::Bad(at)) if at == offset),
+                "at {bytes:?}"
+            );
+        }
+    }
 }
