@@ -1,2 +1,3 @@
+pub mod Descriptors
 pub mod Names
 pub mod Utf8
