@@ -2,3 +2,4 @@ pub mod ClassNames
 pub mod Printing
 pub mod TextFronts
 pub mod UnitBytes
+pub mod Parts

@@ -1,3 +1,4 @@
+pub mod DescriptorReading
 pub mod Descriptors
 pub mod Names
 pub mod Utf8

@@ -1,12 +1,42 @@
-ghost use Rattle.std.specs.Prelude.{◌≡◌, IfOk, IfErr};
+ghost use Rattle.std.specs.Prelude.{◌≡◌, ◌+◌, ◌<◌, length, IfOk, IfErr, IfSome, option_map};
+ghost use Rattle.std.specs.List.{list_all};
 ghost use Rattle.jv_names.specs.declared.descriptor.Desc.{Desc};
 ghost use Rattle.jv_names.specs.declared.descriptor.DescFault.{DescFault};
+ghost use Rattle.jv_names.specs.DescriptorReading.{class_end as end_of_class, dimensions as dimensions_of, split_class, split_dimensions, read_class, read_element, read_type, kept_element, kept_type, Reads};
+ghost use Rattle.jv_names.specs.Names.{is_class_name, is_part as part_is_named, is_part_unit};
 ghost use Rattle.jv_names.specs.Descriptors.{IsFieldDesc, IsMethodDesc, FieldFault, MethodFault, Gives, Refuses, IfFault};
 
 use crate::Units;
 use sqlite_items::Items;
 use std::alloc::{AllocError, AllocFailed, Global};
 use thiserror::Error;
+
+/// The letters of a descriptor (JVM specification, table 4.3-A), and what stands in a class's name.
+const BOOLEAN: u16 = 0x5a; // `Z`
+
+const BYTE: u16 = 0x42; // `B`
+
+const CHAR: u16 = 0x43; // `C`
+
+const SHORT: u16 = 0x53; // `S`
+
+const INT: u16 = 0x49; // `I`
+
+const LONG: u16 = 0x4a; // `J`
+
+const FLOAT: u16 = 0x46; // `F`
+
+const DOUBLE: u16 = 0x44; // `D`
+
+const CLASS: u16 = 0x4c; // `L`
+
+const CLASS_END: u16 = 0x3b; // `;`
+
+const DIMENSION: u16 = 0x5b; // `[`
+
+const PART_END: u16 = 0x2f; // `/`
+
+const DOT: u16 = 0x2e; // `.`
 
 /// What is left of a type when its array dimensions are taken off (JVM specification 2.4 and 4.3.2). Float and double are
 /// not in the profile.
@@ -65,4 +95,114 @@ impl From<AllocError> for DescFault {
     fn from(_: AllocError) -> Self {
         DescFault::Memory
     }
+}
+
+/// Whether none of the units separates or is barred from names.
+fn are_part_units(units: &[u16]) -> bool
+    ensures { result ≡ list_all is_part_unit units.now }
+{
+    units.iter().all(|unit| *unit != DOT && *unit != CLASS_END && *unit != DIMENSION)
+}
+
+#[tactic(auto, using(crate::proofs::Parts::some_part))]
+fn is_part(units: &[u16]) -> bool
+    ensures { result ≡ part_is_named units.now }
+{
+    !units.is_empty() && are_part_units(units)
+}
+
+/// Whether the units are a class's name in internal form (JVM specification 4.2.1).
+fn is_name(units: &[u16]) -> bool
+    ensures { result ≡ is_class_name units.now }
+{
+    units.split(|unit| *unit == PART_END).all(is_part)
+}
+
+/// Where the first `;` stands.
+#[tactic(auto, unfolding(crate::specs::DescriptorReading::class_end))]
+fn class_end(units: &[u16]) -> Option<usize>
+    ensures place { result ≡ end_of_class units.now }
+    ensures within { IfSome result (λ end. end < length units.now) }
+{
+    units.iter().position(|unit| *unit == CLASS_END)
+}
+
+/// How many `[` stand in front of another unit.
+#[tactic(auto, unfolding(crate::specs::DescriptorReading::dimensions))]
+fn dimensions(units: &[u16]) -> Option<usize>
+    ensures place { result ≡ dimensions_of units.now }
+    ensures within { IfSome result (λ n. n < length units.now) }
+{
+    units.iter().position(|unit| *unit != DIMENSION)
+}
+
+/// What stands before the first `;`, and what behind it.
+#[tactic(auto, unfolding(crate::specs::DescriptorReading::split_class))]
+fn class_split(units: &[u16]) -> Option<(&[u16], &[u16])>
+    ensures { option_map (λ x. (x.0.now, x.1.now)) result ≡ split_class units.now }
+{
+    let end = class_end(units)?;
+    Some((&units[..end], &units[end + 1..]))
+}
+
+/// The number of leading `[`, and what follows them, where something does.
+#[tactic(auto, unfolding(crate::specs::DescriptorReading::split_dimensions))]
+fn dimensions_split(units: &[u16]) -> Option<(usize, &[u16])>
+    ensures { option_map (λ x. (x.0, x.1.now)) result ≡ split_dimensions units.now }
+{
+    let dimensions = dimensions(units)?;
+    Some((dimensions, &units[dimensions..]))
+}
+
+/// The class whose name stands before the first `;`, and the units behind it.
+#[tactic(auto, unfolding(crate::specs::DescriptorReading::read_class))]
+fn class_at(alloc: Global, units: &[u16]) -> Result<(Option<ElementType>, &[u16]), DescFault>
+    ensures { Reads kept_element (λ x. (x.0, x.1.now)) result (read_class units.now) }
+{
+    let Some((name, rest)) = class_split(units) else {
+        return Err(DescFault::Bad);
+    };
+    if !is_name(name) {
+        return Err(DescFault::Bad);
+    }
+    let class = ElementType::Class(Units::new(name.to_vec(alloc)?));
+    Ok((Some(class), rest))
+}
+
+/// The element at the front of the units, `None` for a float or a double, and the units behind it.
+#[tactic(auto, unfolding(crate::specs::DescriptorReading::read_element))]
+fn element_at(alloc: Global, units: &[u16]) -> Result<(Option<ElementType>, &[u16]), DescFault>
+    ensures { Reads kept_element (λ x. (x.0, x.1.now)) result (read_element units.now) }
+{
+    let Some((letter, rest)) = units.split_first() else {
+        return Err(DescFault::Bad);
+    };
+    let element = match *letter {
+        BOOLEAN => ElementType::Boolean,
+        BYTE => ElementType::Byte,
+        CHAR => ElementType::Char,
+        SHORT => ElementType::Short,
+        INT => ElementType::Int,
+        LONG => ElementType::Long,
+        FLOAT | DOUBLE => return Ok((None, rest)),
+        CLASS => return class_at(alloc, rest),
+        _ => return Err(DescFault::Bad),
+    };
+    Ok((Some(element), rest))
+}
+
+/// The type at the front of the units, `None` for one with a float or a double, and the units behind it.
+#[tactic(auto, unfolding(crate::specs::DescriptorReading::read_type))]
+fn type_at(alloc: Global, units: &[u16]) -> Result<(Option<FieldType>, &[u16]), DescFault>
+    ensures { Reads kept_type (λ x. (x.0, x.1.now)) result (read_type units.now) }
+{
+    let Some((dimensions, rest)) = dimensions_split(units) else {
+        return Err(DescFault::Bad);
+    };
+    let (element, rest) = element_at(alloc, rest)?;
+    let kept = element.map(|element| FieldType {
+        dimensions,
+        element,
+    });
+    Ok((kept, rest))
 }

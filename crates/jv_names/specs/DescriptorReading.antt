@@ -1,0 +1,67 @@
+-- How the code reads a type at the front of a text. No public clause cites it.
+use Rattle.std.specs.Prelude.{◌≡◌, ℕ, ◌+◌, [], ◌∷◌, take, drop, not, ◌==◌, if◌then◌else◌, Option, Some, None, option_map, Result, Ok, Err}
+use Rattle.std.specs.Option.{option_and_then}
+use Rattle.std.specs.List.{position}
+use Rattle.jv_names.specs.declared.descriptor.ElementType.{ElementType}
+use Rattle.jv_names.specs.declared.descriptor.ElementType.TheVariants.{Boolean, Byte, Char, Short, Int, Long, Class}
+use Rattle.jv_names.specs.declared.descriptor.FieldType.{FieldType}
+use Rattle.jv_names.specs.declared.descriptor.DescFault.{DescFault}
+use Rattle.jv_names.specs.declared.descriptor.DescFault.TheVariants.{Bad, Floating, Memory}
+use Rattle.jv_names.specs.Names.{Name, is_class_name}
+use Rattle.jv_names.specs.Descriptors.{AnyElement, Kept, Float, Double, AnyType}
+
+-- where the first `;` stands
+unfoldable pub class_end : Name → Option ℕ
+class_end text = position (λ unit. unit == 59) text
+
+-- how many `[` stand in front of another unit
+unfoldable pub dimensions : Name → Option ℕ
+dimensions text = position (λ unit. not (unit == 91)) text
+
+unfoldable pub split_class : Name → Option (Name × Name)
+split_class text = option_map (λ end. (take end text, drop (end + 1) text)) (class_end text)
+
+unfoldable pub split_dimensions : Name → Option (ℕ × Name)
+split_dimensions text = option_map (λ n. (n, drop n text)) (dimensions text)
+
+abbrev pub named_class : Name × Name → Option (AnyElement × Name)
+named_class x = if is_class_name x.0 then Some (Kept (Class x.0), x.1) else None
+
+unfoldable pub read_class : Name → Option (AnyElement × Name)
+read_class text = option_and_then named_class (split_class text)
+
+unfoldable pub read_element : Name → Option (AnyElement × Name)
+read_element [] = None
+read_element (unit ∷ rest) =
+    if unit == 90 then Some (Kept Boolean, rest) else
+    if unit == 66 then Some (Kept Byte, rest) else
+    if unit == 67 then Some (Kept Char, rest) else
+    if unit == 83 then Some (Kept Short, rest) else
+    if unit == 73 then Some (Kept Int, rest) else
+    if unit == 74 then Some (Kept Long, rest) else
+    if unit == 70 then Some (Float, rest) else
+    if unit == 68 then Some (Double, rest) else
+    if unit == 76 then read_class rest else None
+
+abbrev pub under : ℕ → AnyElement × Name → AnyType × Name
+under dimensions x = (record { dimensions = dimensions; element = x.0 }, x.1)
+
+unfoldable pub read_type : Name → Option (AnyType × Name)
+read_type text = option_and_then (λ x. option_map (under x.0) (read_element x.1)) (split_dimensions text)
+
+-- ---- what the code answers of it: nothing for a type of floating point
+
+abbrev pub kept_element : AnyElement → Option ElementType
+kept_element (Kept element) = Some element
+kept_element Float = None
+kept_element Double = None
+
+abbrev pub kept_type : AnyType → Option FieldType
+kept_type t = option_map (λ e. record { dimensions = t.dimensions; element = e }) (kept_element t.element)
+
+-- the answer to what was read, unless memory ran out
+abbrev pub Reads : {A B V : Type 0} → (A → Option B) → (V → Option B × Name) → Result V DescFault → Option (A × Name) → Type 0
+Reads kept view (Ok answer) read = option_map (λ x. (kept x.0, x.1)) read ≡ Some (view answer)
+Reads kept view (Err Bad) read = read ≡ None
+Reads kept view (Err Floating) read = ⊥
+Reads kept view (Err Memory) read = Unit {0}
