@@ -3,3 +3,5 @@ pub mod Printing
 pub mod TextFronts
 pub mod UnitBytes
 pub mod Parts
+pub mod Places
+pub mod DescriptorTexts
