@@ -1,13 +1,12 @@
 -- What the code reads is the type that the text begins with, and it reads every such type.
-use Rattle.std.proofs.Common.{◌≡◌, ◌≢◌, ◌<◌, ◌+◌, ℕ, Bool, true, false, not, ◌&&◌, cond, eqb, List, [], ◌∷◌, ◌++◌, length, get_or, take, drop, replicate, Option, Some, None, refl, sym, ap, subst, ◌∙◌, arith, zero, suc, append_assoc}
+use Rattle.std.proofs.Common.{◌≡◌, ◌<◌, ◌+◌, ℕ, Bool, true, false, not, ◌&&◌, cond, eqb, List, [], ◌∷◌, ◌++◌, length, get_or, take, drop, replicate, Option, Some, None, refl, sym, ap, subst, ◌∙◌, arith, zero, suc, append_assoc}
 use Rattle.std.specs.Prelude.{option_map, IfSome}
 use Rattle.std.specs.Option.{option_and_then}
-use Rattle.std.specs.List.{list_all, position}
+use Rattle.std.specs.List.{list_all}
 use Rattle.std.proofs.Math.Seq.{take-append_seam, drop-append_seam, drop-append-add}
 use Rattle.std.proofs.lemmas.Bool.Decides.{nat_tests}
 use Rattle.std.proofs.lemmas.List.{append-nil, length-replicate, take-append-drop}
 use Rattle.std.proofs.lemmas.List.Quantifiers.{position-Some}
-use Rattle.jv_names.specs.declared.descriptor.ElementType.{ElementType}
 use Rattle.jv_names.specs.declared.descriptor.ElementType.TheVariants.{Boolean, Byte, Char, Short, Int, Long, Class}
 use Rattle.jv_names.specs.Names.{Name, onto, parts, is_part, is_part_unit, is_class_name}
 use Rattle.jv_names.specs.Descriptors.{AnyElement, Kept, Float, Double, AnyType, element_text, type_text, IsNamed, IsNamedType}
@@ -213,3 +212,11 @@ type_text-no_end t rest units e = let h : false ≡ true = type_text-head t rest
 
 pub type_text-no_void : (t : AnyType) (units : Name) → type_text t ≡ 86 ∷ units → ⊥
 type_text-no_void t units e = let h : false ≡ true = type_text-head t [] 86 units (append-nil (type_text t) ∙ e) in cc
+
+some_text : (text : Name) → (text ≡ [] → ⊥) → 0 < length text
+some_text [] nonempty = absurd (nonempty refl)
+some_text (u ∷ us) nonempty = omega arith
+
+-- it takes at least one unit
+pub type_text-some : (t : AnyType) → 0 < length (type_text t)
+type_text-some t = some_text (type_text t) (λ e. type_text-no_end t (41 ∷ []) [] (rw e refl))

@@ -5,3 +5,4 @@ pub mod UnitBytes
 pub mod Parts
 pub mod Places
 pub mod DescriptorTexts
+pub mod Descriptors

@@ -1,5 +1,5 @@
 -- A name's parts are what std's `split` gives.
-use Rattle.std.proofs.Common.{◌≡◌, ◌<◌, ℕ, Bool, true, false, cond, eqb, List, [], ◌∷◌, length, refl, arith}
+use Rattle.std.proofs.Common.{◌≡◌, ◌<◌, ℕ, eqb, List, [], ◌∷◌, length, refl, arith}
 use Rattle.std.specs.List.{list_all, slice_split, onto_first}
 use Rattle.jv_names.specs.Names.{onto, parts, is_part, is_part_unit}
 

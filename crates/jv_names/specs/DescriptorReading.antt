@@ -1,14 +1,14 @@
 -- How the code reads a type at the front of a text. No public clause cites it.
-use Rattle.std.specs.Prelude.{◌≡◌, ℕ, ◌+◌, [], ◌∷◌, take, drop, not, ◌==◌, if◌then◌else◌, Option, Some, None, option_map, Result, Ok, Err}
+use Rattle.std.specs.Prelude.{List, ◌++◌, flat_map, ◌==◌, IsTrue, ◌≡◌, ℕ, ◌+◌, [], ◌∷◌, take, drop, not, if◌then◌else◌, Option, Some, None, option_map, Result, Ok, Err}
 use Rattle.std.specs.Option.{option_and_then}
-use Rattle.std.specs.List.{position}
+use Rattle.std.specs.List.{position, AllByRecursion}
 use Rattle.jv_names.specs.declared.descriptor.ElementType.{ElementType}
 use Rattle.jv_names.specs.declared.descriptor.ElementType.TheVariants.{Boolean, Byte, Char, Short, Int, Long, Class}
 use Rattle.jv_names.specs.declared.descriptor.FieldType.{FieldType}
 use Rattle.jv_names.specs.declared.descriptor.DescFault.{DescFault}
 use Rattle.jv_names.specs.declared.descriptor.DescFault.TheVariants.{Bad, Floating, Memory}
 use Rattle.jv_names.specs.Names.{Name, is_class_name}
-use Rattle.jv_names.specs.Descriptors.{AnyElement, Kept, Float, Double, AnyType}
+use Rattle.jv_names.specs.Descriptors.{AnyElement, Kept, Float, Double, AnyType, type_text, result_text, IsNamedType, IsNamedResult, is_floating_result}
 
 -- where the first `;` stands
 unfoldable pub class_end : Name → Option ℕ
@@ -59,9 +59,61 @@ kept_element Double = None
 abbrev pub kept_type : AnyType → Option FieldType
 kept_type t = option_map (λ e. record { dimensions = t.dimensions; element = e }) (kept_element t.element)
 
+-- why nothing was read
+abbrev pub IsUnread : {X : Type 0} → Option X → DescFault → Type 0
+IsUnread read Bad = read ≡ None
+IsUnread read Floating = ⊥
+IsUnread read Memory = Unit {0}
+
 -- the answer to what was read, unless memory ran out
 abbrev pub Reads : {A B V : Type 0} → (A → Option B) → (V → Option B × Name) → Result V DescFault → Option (A × Name) → Type 0
 Reads kept view (Ok answer) read = option_map (λ x. (kept x.0, x.1)) read ≡ Some (view answer)
-Reads kept view (Err Bad) read = read ≡ None
-Reads kept view (Err Floating) read = ⊥
-Reads kept view (Err Memory) read = Unit {0}
+Reads kept view (Err fault) read = IsUnread read fault
+
+-- ---- several types, and a result
+
+-- nothing if one of them is of floating point
+abbrev pub with_kept : Option FieldType → Option (List FieldType) → Option (List FieldType)
+with_kept None others = None
+with_kept (Some t) None = None
+with_kept (Some t) (Some others) = Some (t ∷ others)
+
+abbrev pub kept_types : List AnyType → Option (List FieldType)
+kept_types [] = Some []
+kept_types (t ∷ ts) = with_kept (kept_type t) (kept_types ts)
+
+-- the same with one more
+abbrev pub with_last : Option (List FieldType) → Option FieldType → Option (List FieldType)
+with_last None last = None
+with_last (Some ts) None = None
+with_last (Some ts) (Some last) = Some (ts ++ last ∷ [])
+
+-- types in front of the rest, and what is kept of them
+pub record AreTypes (text : Name) (kept : Option (List FieldType)) (rest : Name) : Type 0 where
+  pub types : List AnyType
+  pub named : AllByRecursion IsNamedType types
+  pub spelled : text ≡ flat_map type_text types ++ rest
+  pub are_kept : kept_types types ≡ kept
+
+-- the same, with the `)` behind them
+abbrev pub AreParameters : Name → Option (List FieldType) → Name → Type 0
+AreParameters text kept rest = AreTypes text kept (41 ∷ rest)
+
+-- no parameters and their `)` stand in front
+abbrev pub NoParameters : Name → Type 0
+NoParameters text = (ts : List AnyType) (rest : Name) → AllByRecursion IsNamedType ts → text ≡ flat_map type_text ts ++ 41 ∷ rest → ⊥
+
+pub record IsResultText (text : Name) (r : Option AnyType) : Type 0 where
+  pub named : IsNamedResult r
+  pub spelled : text ≡ result_text r
+
+abbrev pub ResultFault : Name → DescFault → Type 0
+ResultFault text Bad = (r : Option AnyType) → ¬ IsResultText text r
+ResultFault text Floating = (r : Option AnyType) × IsResultText text r × IsTrue (is_floating_result r)
+ResultFault text Memory = ⊥
+
+-- the fault of a text that no parameters begin, unless memory ran out
+abbrev pub IsNoParameters : Name → DescFault → Type 0
+IsNoParameters text Bad = NoParameters text
+IsNoParameters text Floating = ⊥
+IsNoParameters text Memory = Unit {0}

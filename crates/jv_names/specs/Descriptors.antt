@@ -1,6 +1,6 @@
 -- Descriptors: JVM specification 4.3.2 and 4.3.3, of every type that they spell, with float and double. The limits of 255,
 -- on dimensions (4.3.2) and on the length of parameters (4.3.3), are rules apart from these texts.
-use Rattle.std.specs.Prelude.{◌≡◌, ◌⊎◌, List, [], ◌∷◌, ◌++◌, replicate, map, flat_map, ℕ, Bool, true, false, ◌||◌, IsTrue, Option, Some, None, option_map, Result, Ok, Err}
+use Rattle.std.specs.Prelude.{◌≡◌, List, [], ◌∷◌, ◌++◌, replicate, map, flat_map, ℕ, Bool, true, false, ◌||◌, IsTrue, Option, Some, None, option_map, Result, Ok, Err}
 use Rattle.std.specs.List.{list_any, AllByRecursion}
 use Rattle.jv_names.specs.declared.descriptor.ElementType.{ElementType}
 use Rattle.jv_names.specs.declared.descriptor.ElementType.TheVariants.{Boolean, Byte, Char, Short, Int, Long, Class}

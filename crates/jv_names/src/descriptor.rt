@@ -1,10 +1,10 @@
-ghost use Rattle.std.specs.Prelude.{◌≡◌, ◌+◌, ◌<◌, length, IfOk, IfErr, IfSome, option_map};
+ghost use Rattle.std.specs.Prelude.{◌≡◌, ◌≢◌, ℕ, ◌+◌, ◌<◌, List, ◌∷◌, length, MatchOption, IfOk, IfErr, IfSome, option_map};
 ghost use Rattle.std.specs.List.{list_all};
 ghost use Rattle.jv_names.specs.declared.descriptor.Desc.{Desc};
 ghost use Rattle.jv_names.specs.declared.descriptor.DescFault.{DescFault};
-ghost use Rattle.jv_names.specs.DescriptorReading.{class_end as end_of_class, dimensions as dimensions_of, split_class, split_dimensions, read_class, read_element, read_type, kept_element, kept_type, Reads};
+ghost use Rattle.jv_names.specs.DescriptorReading.{class_end as end_of_class, dimensions as dimensions_of, split_class, split_dimensions, read_class, read_element, read_type, kept_element, kept_type, Reads, with_last, AreParameters, IsNoParameters, IsResultText, ResultFault};
 ghost use Rattle.jv_names.specs.Names.{is_class_name, is_part as part_is_named, is_part_unit};
-ghost use Rattle.jv_names.specs.Descriptors.{IsFieldDesc, IsMethodDesc, FieldFault, MethodFault, Gives, Refuses, IfFault};
+ghost use Rattle.jv_names.specs.Descriptors.{any_type, any_method, IsFieldText, IsMethodText, IsFieldDesc, IsMethodDesc, FieldFault, MethodFault, Gives, Refuses, IfFault};
 
 use crate::Units;
 use sqlite_items::Items;
@@ -33,6 +33,12 @@ const CLASS: u16 = 0x4c; // `L`
 const CLASS_END: u16 = 0x3b; // `;`
 
 const DIMENSION: u16 = 0x5b; // `[`
+
+const PARAMETERS: u16 = 0x28; // `(`
+
+const PARAMETERS_END: u16 = 0x29; // `)`
+
+const VOID: u16 = 0x56; // `V`
 
 const PART_END: u16 = 0x2f; // `/`
 
@@ -205,4 +211,123 @@ fn type_at(alloc: Global, units: &[u16]) -> Result<(Option<FieldType>, &[u16]), 
         element,
     });
     Ok((kept, rest))
+}
+
+/// What follows the unit, where the units begin with it.
+fn after(unit: u16, units: &[u16]) -> Option<&[u16]>
+    ensures { MatchOption result ((rest : List ℕ) → units.now ≢ unit ∷ rest) (λ rest. units.now ≡ unit ∷ rest.now) }
+{
+    units.strip_prefix(&[unit])
+}
+
+/// The type that the units are, all of them.
+fn type_of(alloc: Global, units: &[u16]) -> Result<FieldType, DescFault>
+    ensures found { IfOk result (λ t. IsFieldText units.now (any_type t)) }
+    ensures fault { IfErr result (λ e. IfFault e (FieldFault units.now)) }
+{
+    let (kept, rest) = type_at(alloc, units)?;
+    if !rest.is_empty() {
+        return Err(DescFault::Bad);
+    }
+    kept.ok_or(DescFault::Floating)
+}
+
+/// The result that the units are, all of them.
+fn result_of(alloc: Global, units: &[u16]) -> Result<Option<FieldType>, DescFault>
+    ensures found { IfOk result (λ r. IsResultText units.now (option_map any_type r)) }
+    ensures fault { IfErr result (λ e. IfFault e (ResultFault units.now)) }
+{
+    if units == [VOID].as_slice() {
+        return Ok(None);
+    }
+    Ok(Some(type_of(alloc, units)?))
+}
+
+/// The parameters with one more, `None` once one of them has a float or a double.
+fn with_parameter(
+    parameters: Option<Items<FieldType>>,
+    parameter: Option<FieldType>,
+) -> Result<Option<Items<FieldType>>, AllocError>
+    ensures { IfOk result (λ all. all ≡ with_last parameters parameter) }
+{
+    match (parameters, parameter) {
+        (Some(mut parameters), Some(parameter)) => {
+            parameters.push(parameter)?;
+            Ok(Some(parameters))
+        }
+        _ => Ok(None),
+    }
+}
+
+/// The parameters in front of the first `)` behind a type, `None` where one has a float or a double, and the units behind
+/// that `)`.
+fn parameters_at(
+    alloc: Global,
+    units: &[u16],
+) -> Result<(Option<Items<FieldType>>, &[u16]), DescFault>
+    ensures found { IfOk result (λ x. AreParameters units.now x.0 x.1.now) }
+    ensures fault { IfErr result (IsNoParameters units.now) }
+{
+    let mut parameters = Some(Items::new(alloc));
+    let mut rest = units;
+    loop {
+        if let Some(after) = after(PARAMETERS_END, rest) {
+            return Ok((parameters, after));
+        }
+        let (parameter, after) = type_at(alloc, rest)?;
+        parameters = with_parameter(parameters, parameter)?;
+        rest = after;
+    }
+}
+
+/// The method that the units are, all of them.
+fn method_of(alloc: Global, units: &[u16]) -> Result<MethodType, DescFault>
+    ensures found { IfOk result (λ m. IsMethodText units.now (any_method m)) }
+    ensures fault { IfErr result (λ e. IfFault e (MethodFault units.now)) }
+{
+    let Some(rest) = after(PARAMETERS, units) else {
+        return Err(DescFault::Bad);
+    };
+    let (parameters, rest) = parameters_at(alloc, rest)?;
+    let result = result_of(alloc, rest)?;
+    match parameters {
+        Some(parameters) => Ok(MethodType { parameters, result }),
+        None => Err(DescFault::Floating),
+    }
+}
+
+/// The field descriptor that the text is, all of it (JVM specification 4.3.2), or why it is none. `Memory` is answered only
+/// where an allocation failed. The limit of 255 dimensions is left to the caller.
+pub fn field_desc(alloc: Global, text: &Units) -> Result<Desc, DescFault>
+    // What is answered is a field's, and spelled so.
+    ensures found { IfOk result (IsFieldDesc text.now) }
+
+    // What the text spells is answered, unless memory runs out.
+    ensures only { (d : Desc) → IsFieldDesc text.now d → Gives result d }
+
+    // A fault is the text's.
+    ensures fault { IfErr result (λ e. IfFault e (FieldFault text.now)) }
+
+    // A text is refused for its fault, unless memory runs out.
+    ensures exact { (f : DescFault) → FieldFault text.now f → Refuses result f }
+{
+    Ok(Desc::Field(type_of(alloc, text.as_slice())?))
+}
+
+/// The method descriptor that the text is, all of it (JVM specification 4.3.3), or why it is none. `Memory` is answered
+/// only where an allocation failed. The limit of 255 on the parameters' length is left to the caller.
+pub fn method_desc(alloc: Global, text: &Units) -> Result<Desc, DescFault>
+    // What is answered is a method's, and spelled so.
+    ensures found { IfOk result (IsMethodDesc text.now) }
+
+    // What the text spells is answered, unless memory runs out.
+    ensures only { (d : Desc) → IsMethodDesc text.now d → Gives result d }
+
+    // A fault is the text's.
+    ensures fault { IfErr result (λ e. IfFault e (MethodFault text.now)) }
+
+    // A text is refused for its fault, unless memory runs out.
+    ensures exact { (f : DescFault) → MethodFault text.now f → Refuses result f }
+{
+    Ok(Desc::Method(method_of(alloc, text.as_slice())?))
 }
