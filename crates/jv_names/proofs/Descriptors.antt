@@ -192,8 +192,8 @@ method_parts text rest m begun is = let e : 40 ∷ rest ≡ 40 ∷ (flat_map typ
 -- parameters and a result, put together
 read_method : (text rest tail : Name) (kept : Option (List FieldType)) (r : Option AnyType) → text ≡ 40 ∷ rest → (are : AreParameters rest kept tail) → IsResultText tail r → IsMethodText text (record { parameters = are.types; result = r })
 read_method text rest tail kept r begun are is = record {
-  parameters = are.named;
-  result = is.named;
+  parameters_named = are.named;
+  result_named = is.named;
   spelled = begun ∙ ap {B = Name} (λ x. 40 ∷ x) (are.spelled ∙ rw (is.spelled) refl);
 }
 
@@ -203,8 +203,8 @@ or-true false = refl
 
 pub result_fault-method : (text rest tail : Name) (kept : Option (List FieldType)) (e : DescFault) → text ≡ 40 ∷ rest → AreParameters rest kept tail → IfFault e (ResultFault tail) → IfFault e (MethodFault text)
 result_fault-method text rest tail kept Bad begun are h = λ m is.
-    let same = parameters_apart are.types m.parameters tail (result_text m.result) are.named is.parameters (sym are.spelled ∙ method_parts text rest m begun is) in
-    h m.result (record { named = is.result; spelled = same.1 })
+    let same = parameters_apart are.types m.parameters tail (result_text m.result) are.named is.parameters_named (sym are.spelled ∙ method_parts text rest m begun is) in
+    h m.result (record { named = is.result_named; spelled = same.1 })
 result_fault-method text rest tail kept Floating begun are h =
     (record { parameters = are.types; result = h.0 }, read_method text rest tail kept h.0 begun are h.1, rw h.2 (or-true (list_any is_floating_type are.types)))
 result_fault-method text rest tail kept Memory begun are h = tt
@@ -278,8 +278,8 @@ result_apart (Some t) (Some u) rn sn e = rw (field_apart (type_text t) t u (reco
 method_apart : (text : Name) (m n : AnyMethod) → IsMethodText text m → IsMethodText text n → m ≡ n
 method_apart text m n mi ni =
     let both : 40 ∷ (flat_map type_text m.parameters ++ 41 ∷ result_text m.result) ≡ 40 ∷ (flat_map type_text n.parameters ++ 41 ∷ result_text n.result) = sym mi.spelled ∙ ni.spelled in
-    let same = parameters_apart m.parameters n.parameters (result_text m.result) (result_text n.result) mi.parameters ni.parameters cc in
-    let results : m.result ≡ n.result = result_apart m.result n.result mi.result ni.result same.1 in
+    let same = parameters_apart m.parameters n.parameters (result_text m.result) (result_text n.result) mi.parameters_named ni.parameters_named cc in
+    let results : m.result ≡ n.result = result_apart m.result n.result mi.result_named ni.result_named same.1 in
     let method = λ (ps : List AnyType) (r : Option AnyType). let x : AnyMethod = record { parameters = ps; result = r } in x in
     let whole : method m.parameters m.result ≡ method n.parameters n.result = rw (same.0, results) refl in
     whole

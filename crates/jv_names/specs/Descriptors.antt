@@ -96,8 +96,8 @@ pub record IsFieldText (text : Name) (t : AnyType) : Type 0 where
   pub spelled : text ≡ type_text t
 
 pub record IsMethodText (text : Name) (m : AnyMethod) : Type 0 where
-  pub parameters : AllByRecursion IsNamedType m.parameters
-  pub result : IsNamedResult m.result
+  pub parameters_named : AllByRecursion IsNamedType m.parameters
+  pub result_named : IsNamedResult m.result
   pub spelled : text ≡ method_text m
 
 -- a type of the profile among all types

@@ -8,10 +8,10 @@ ghost use Rattle.jv_names.specs.Descriptors.{any_type, any_method, IsFieldText, 
 
 use crate::Units;
 use sqlite_items::Items;
-use std::alloc::{AllocError, AllocFailed, Global};
+use std::alloc::{AllocError, Global};
 use thiserror::Error;
 
-/// The letters of a descriptor (JVM specification, table 4.3-A), and what stands in a class's name.
+// The units of descriptors (JVM specification 4.3.2 and 4.3.3) and of the class names in them (4.2.1).
 const BOOLEAN: u16 = 0x5a; // `Z`
 
 const BYTE: u16 = 0x42; // `B`
@@ -110,6 +110,7 @@ fn are_part_units(units: &[u16]) -> bool
     units.iter().all(|unit| *unit != DOT && *unit != CLASS_END && *unit != DIMENSION)
 }
 
+/// Whether the units are a part of a name: at least one, and none that is barred.
 #[tactic(auto, using(crate::proofs::Parts::some_part))]
 fn is_part(units: &[u16]) -> bool
     ensures { result ≡ part_is_named units.now }
@@ -259,8 +260,7 @@ fn with_parameter(
     }
 }
 
-/// The parameters in front of the first `)` behind a type, `None` where one has a float or a double, and the units behind
-/// that `)`.
+/// The parameters up to the `)` behind them, `None` where one has a float or a double, and the units behind that `)`.
 fn parameters_at(
     alloc: Global,
     units: &[u16],
@@ -330,4 +330,124 @@ pub fn method_desc(alloc: Global, text: &Units) -> Result<Desc, DescFault>
     ensures exact { (f : DescFault) → MethodFault text.now f → Refuses result f }
 {
     Ok(Desc::Method(method_of(alloc, text.as_slice())?))
+}
+
+#[cfg(test)]
+mod tests {
+    use super::*;
+    use crate::printed;
+
+    /// A type as Java writes it, but for the names of classes, which stay in internal form.
+    fn push_type(alloc: Global, text: &mut Vec<u8>, field: &FieldType) -> Result<(), AllocError> {
+        match &field.element {
+            ElementType::Boolean => text.extend_from_slice(b"boolean")?,
+            ElementType::Byte => text.extend_from_slice(b"byte")?,
+            ElementType::Char => text.extend_from_slice(b"char")?,
+            ElementType::Short => text.extend_from_slice(b"short")?,
+            ElementType::Int => text.extend_from_slice(b"int")?,
+            ElementType::Long => text.extend_from_slice(b"long")?,
+            ElementType::Class(name) => text.extend_from_slice(&printed(alloc, name)?)?,
+        }
+        for _ in 0..field.dimensions {
+            text.extend_from_slice(b"[]")?;
+        }
+        Ok(())
+    }
+
+    /// The result, and in parentheses each parameter with a comma behind it.
+    fn push_method(
+        alloc: Global,
+        text: &mut Vec<u8>,
+        method: &MethodType,
+    ) -> Result<(), AllocError> {
+        match &method.result {
+            Some(result) => push_type(alloc, text, result)?,
+            None => text.extend_from_slice(b"void")?,
+        }
+        text.push(b'(')?;
+        for parameter in method.parameters.as_slice() {
+            push_type(alloc, text, parameter)?;
+            text.push(b',')?;
+        }
+        text.push(b')')?;
+        Ok(())
+    }
+
+    fn in_java(alloc: Global, answer: &Result<Desc, DescFault>) -> Result<Vec<u8>, AllocError> {
+        let mut text = Vec::new(alloc);
+        match answer {
+            Ok(Desc::Field(field)) => push_type(alloc, &mut text, field)?,
+            Ok(Desc::Method(method)) => push_method(alloc, &mut text, method)?,
+            Err(DescFault::Bad) => text.extend_from_slice(b"bad")?,
+            Err(DescFault::Floating) => text.extend_from_slice(b"floating")?,
+            Err(DescFault::Memory) => text.extend_from_slice(b"memory")?,
+        }
+        Ok(text)
+    }
+
+    /// Types as `javac` writes them into class files and `javap` prints them, and texts that JVM specification 4.3.2 doesn't
+    /// derive.
+    #[test]
+    fn reads_fields(rt: HostRuntime) -> Result<(), AllocError> {
+        let alloc = rt.alloc();
+        let cases = [
+            ("Z", "boolean"),
+            ("B", "byte"),
+            ("C", "char"),
+            ("S", "short"),
+            ("I", "int"),
+            ("[[J", "long[][]"),
+            ("Ljava/lang/String;", "java/lang/String"),
+            ("[Ljava/lang/Object;", "java/lang/Object[]"),
+            ("LF;", "F"),
+            ("F", "floating"),
+            ("[D", "floating"),
+            ("", "bad"),
+            ("V", "bad"),
+            ("L;", "bad"),
+            ("La", "bad"),
+            ("La.b;", "bad"),
+            ("L[I;", "bad"),
+            ("[", "bad"),
+            ("II", "bad"),
+            ("FF", "bad"),
+            ("()V", "bad"),
+        ];
+        for (text, wanted) in cases {
+            let units = Units::from_ascii(alloc, text.as_bytes())?;
+            let answer = in_java(alloc, &field_desc(alloc, &units))?;
+            assert_eq!(rt; answer.as_slice(), wanted.as_bytes(), "at {text}");
+        }
+        Ok(())
+    }
+
+    /// Methods in the same way, and texts that JVM specification 4.3.3 doesn't derive.
+    #[test]
+    fn reads_methods(rt: HostRuntime) -> Result<(), AllocError> {
+        let alloc = rt.alloc();
+        let cases = [
+            ("()V", "void()"),
+            ("([Ljava/lang/String;)V", "void(java/lang/String[],)"),
+            (
+                "(ILjava/lang/String;[[J)Ljava/lang/Object;",
+                "java/lang/Object(int,java/lang/String,long[][],)",
+            ),
+            ("(F)V", "floating"),
+            ("(I)D", "floating"),
+            ("(DLa;[F)F", "floating"),
+            ("(F)", "bad"),
+            ("(V)V", "bad"),
+            ("()", "bad"),
+            ("()VV", "bad"),
+            ("(I", "bad"),
+            ("I", "bad"),
+            ("", "bad"),
+        ];
+        for (text, wanted) in cases {
+            let units = Units::from_ascii(alloc, text.as_bytes())?;
+            let answer = in_java(alloc, &method_desc(alloc, &units))?;
+            assert_eq!(rt; answer.as_slice(), wanted.as_bytes(), "at {text}");
+        }
+        Ok(())
+    }
 }
