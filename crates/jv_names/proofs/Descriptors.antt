@@ -15,7 +15,7 @@ use Rattle.jv_names.specs.declared.descriptor.Desc.TheVariants.{Field, Method}
 use Rattle.jv_names.specs.declared.descriptor.DescFault.{DescFault}
 use Rattle.jv_names.specs.declared.descriptor.DescFault.TheVariants.{Bad, Floating, Memory}
 use Rattle.jv_names.specs.Names.{Name}
-use Rattle.jv_names.specs.Descriptors.{AnyElement, Kept, Float, Double, AnyType, AnyMethod, type_text, result_text, IsNamedType, IsNamedResult, is_floating_type, is_floating_result, is_floating_method, any_type, any_method, IsFieldText, IsMethodText, IsFieldDesc, IsMethodDesc, FieldFault, MethodFault, Gives, IfFault}
+use Rattle.jv_names.specs.Descriptors.{AnyElement, Kept, Float, Double, AnyType, AnyMethod, type_text, result_text, IsNamedType, IsNamedResult, is_floating_type, is_floating_result, is_floating_method, any_type, any_method, IsFieldText, IsMethodText, IsFieldDesc, IsMethodDesc, FieldFault, MethodFault, GivesDesc, IfFault}
 use Rattle.jv_names.specs.DescriptorReading.{read_type, kept_type, kept_types, with_kept, with_last, IsUnread, AreTypes, AreParameters, IsNoParameters, IsResultText, ResultFault}
 use Rattle.jv_names.proofs.DescriptorTexts.{read_type-text, IsTypeFront, read_type-front, type_text-no_end, type_text-no_void, type_text-some}
 
@@ -306,7 +306,7 @@ field-exact text t is Floating fault =
     false≢true clash
 field-exact text t is Memory fault = fault
 
-pub field_fault-only : (text : Name) (e : DescFault) → IfFault e (FieldFault text) → (d : Desc) → IsFieldDesc text d → Gives (Err e) d
+pub field_fault-only : (text : Name) (e : DescFault) → IfFault e (FieldFault text) → (d : Desc) → IsFieldDesc text d → GivesDesc (Err e) d
 field_fault-only text Bad h (Field t) is = h (any_type t) is
 field_fault-only text Bad h (Method m) is = is
 field_fault-only text Floating h (Field t) is = field-exact text t is Floating h
@@ -332,7 +332,7 @@ method-exact text m is Floating fault =
     false≢true (sym not_so ∙ floating)
 method-exact text m is Memory fault = fault
 
-pub method_fault-only : (text : Name) (e : DescFault) → IfFault e (MethodFault text) → (d : Desc) → IsMethodDesc text d → Gives (Err e) d
+pub method_fault-only : (text : Name) (e : DescFault) → IfFault e (MethodFault text) → (d : Desc) → IsMethodDesc text d → GivesDesc (Err e) d
 method_fault-only text Bad h (Field t) is = is
 method_fault-only text Bad h (Method m) is = h (any_method m) is
 method_fault-only text Floating h (Field t) is = is

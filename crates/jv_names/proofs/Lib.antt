@@ -2,7 +2,6 @@ pub mod ClassNames
 pub mod Printing
 pub mod TextFronts
 pub mod UnitBytes
-pub mod Parts
 pub mod Places
 pub mod DescriptorTexts
 pub mod Descriptors

@@ -131,16 +131,16 @@ MethodFault text Memory = ⊥
 -- ---- what a call answers, want of memory apart
 
 -- this value
-abbrev pub Gives : Result Desc DescFault → Desc → Type 0
-Gives (Ok answer) d = answer ≡ d
-Gives (Err Memory) d = Unit {0}
-Gives (Err fault) d = ⊥
+abbrev pub GivesDesc : Result Desc DescFault → Desc → Type 0
+GivesDesc (Ok answer) d = answer ≡ d
+GivesDesc (Err Memory) d = Unit {0}
+GivesDesc (Err fault) d = ⊥
 
 -- this fault
-abbrev pub Refuses : Result Desc DescFault → DescFault → Type 0
-Refuses (Ok answer) f = ⊥
-Refuses (Err Memory) f = Unit {0}
-Refuses (Err fault) f = fault ≡ f
+abbrev pub RefusesFor : Result Desc DescFault → DescFault → Type 0
+RefusesFor (Ok answer) f = ⊥
+RefusesFor (Err Memory) f = Unit {0}
+RefusesFor (Err fault) f = fault ≡ f
 
 -- a fact of the fault, unless it is want of memory
 abbrev pub IfFault : DescFault → (DescFault → Type 0) → Type 0

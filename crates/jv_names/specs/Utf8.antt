@@ -43,16 +43,16 @@ pub record IsFirstBad (bytes : List ℕ) (offset : ℕ) : Type 0 where
 -- ---- what reading answers, want of memory apart
 
 -- this text
-abbrev pub Gives : Result (List ℕ) TextFault → List ℕ → Type 0
-Gives (Ok read) units = read ≡ units
-Gives (Err (Bad offset)) units = ⊥
-Gives (Err Memory) units = Unit {0}
+abbrev pub GivesText : Result (List ℕ) TextFault → List ℕ → Type 0
+GivesText (Ok read) units = read ≡ units
+GivesText (Err (Bad offset)) units = ⊥
+GivesText (Err Memory) units = Unit {0}
 
 -- the fault at this offset
-abbrev pub Refuses : Result (List ℕ) TextFault → ℕ → Type 0
-Refuses (Ok read) offset = ⊥
-Refuses (Err (Bad at)) offset = at ≡ offset
-Refuses (Err Memory) offset = Unit {0}
+abbrev pub RefusesAt : Result (List ℕ) TextFault → ℕ → Type 0
+RefusesAt (Ok read) offset = ⊥
+RefusesAt (Err (Bad at)) offset = at ≡ offset
+RefusesAt (Err Memory) offset = Unit {0}
 
 -- a fact of the offset
 abbrev pub IfBad : TextFault → (ℕ → Type 0) → Type 0

@@ -1,17 +1,16 @@
 ghost use Rattle.std.specs.Prelude.{◌≡◌, ◌≢◌, ℕ, ◌+◌, ◌<◌, List, ◌∷◌, length, MatchOption, IfOk, IfErr, IfSome, option_map};
-ghost use Rattle.std.specs.List.{list_all};
 ghost use Rattle.jv_names.specs.declared.descriptor.Desc.{Desc};
 ghost use Rattle.jv_names.specs.declared.descriptor.DescFault.{DescFault};
 ghost use Rattle.jv_names.specs.DescriptorReading.{class_end as end_of_class, dimensions as dimensions_of, split_class, split_dimensions, read_class, read_element, read_type, kept_element, kept_type, Reads, with_last, AreParameters, IsNoParameters, IsResultText, ResultFault};
-ghost use Rattle.jv_names.specs.Names.{is_class_name, is_part as part_is_named, is_part_unit};
-ghost use Rattle.jv_names.specs.Descriptors.{any_type, any_method, IsFieldText, IsMethodText, IsFieldDesc, IsMethodDesc, FieldFault, MethodFault, Gives, Refuses, IfFault};
+ghost use Rattle.jv_names.specs.Descriptors.{any_type, any_method, IsFieldText, IsMethodText, IsFieldDesc, IsMethodDesc, FieldFault, MethodFault, GivesDesc, RefusesFor, IfFault};
 
 use crate::Units;
+use crate::name::has_class_form;
 use sqlite_items::Items;
 use std::alloc::{AllocError, Global};
 use thiserror::Error;
 
-// The units of descriptors (JVM specification 4.3.2 and 4.3.3) and of the class names in them (4.2.1).
+// The units of descriptors (JVM specification 4.3.2 and 4.3.3).
 const BOOLEAN: u16 = 0x5a; // `Z`
 
 const BYTE: u16 = 0x42; // `B`
@@ -39,10 +38,6 @@ const PARAMETERS: u16 = 0x28; // `(`
 const PARAMETERS_END: u16 = 0x29; // `)`
 
 const VOID: u16 = 0x56; // `V`
-
-const PART_END: u16 = 0x2f; // `/`
-
-const DOT: u16 = 0x2e; // `.`
 
 /// What is left of a type when its array dimensions are taken off (JVM specification 2.4 and 4.3.2). Float and double are
 /// not in the profile.
@@ -103,28 +98,6 @@ impl From<AllocError> for DescFault {
     }
 }
 
-/// Whether none of the units separates or is barred from names.
-fn are_part_units(units: &[u16]) -> bool
-    ensures { result ≡ list_all is_part_unit units.now }
-{
-    units.iter().all(|unit| *unit != DOT && *unit != CLASS_END && *unit != DIMENSION)
-}
-
-/// Whether the units are a part of a name: at least one, and none that is barred.
-#[tactic(auto, using(crate::proofs::Parts::some_part))]
-fn is_part(units: &[u16]) -> bool
-    ensures { result ≡ part_is_named units.now }
-{
-    !units.is_empty() && are_part_units(units)
-}
-
-/// Whether the units are a class's name in internal form (JVM specification 4.2.1).
-fn is_name(units: &[u16]) -> bool
-    ensures { result ≡ is_class_name units.now }
-{
-    units.split(|unit| *unit == PART_END).all(is_part)
-}
-
 /// Where the first `;` stands.
 #[tactic(auto, unfolding(crate::specs::DescriptorReading::class_end))]
 fn class_end(units: &[u16]) -> Option<usize>
@@ -169,7 +142,7 @@ fn class_at(alloc: Global, units: &[u16]) -> Result<(Option<ElementType>, &[u16]
     let Some((name, rest)) = class_split(units) else {
         return Err(DescFault::Bad);
     };
-    if !is_name(name) {
+    if !has_class_form(name) {
         return Err(DescFault::Bad);
     }
     let class = ElementType::Class(Units::new(name.to_vec(alloc)?));
@@ -303,13 +276,13 @@ pub fn field_desc(alloc: Global, text: &Units) -> Result<Desc, DescFault>
     ensures found { IfOk result (IsFieldDesc text.now) }
 
     // What the text spells is answered, unless memory runs out.
-    ensures only { (d : Desc) → IsFieldDesc text.now d → Gives result d }
+    ensures only { (d : Desc) → IsFieldDesc text.now d → GivesDesc result d }
 
     // A fault is the text's.
     ensures fault { IfErr result (λ e. IfFault e (FieldFault text.now)) }
 
     // A text is refused for its fault, unless memory runs out.
-    ensures exact { (f : DescFault) → FieldFault text.now f → Refuses result f }
+    ensures exact { (f : DescFault) → FieldFault text.now f → RefusesFor result f }
 {
     Ok(Desc::Field(type_of(alloc, text.as_slice())?))
 }
@@ -321,13 +294,13 @@ pub fn method_desc(alloc: Global, text: &Units) -> Result<Desc, DescFault>
     ensures found { IfOk result (IsMethodDesc text.now) }
 
     // What the text spells is answered, unless memory runs out.
-    ensures only { (d : Desc) → IsMethodDesc text.now d → Gives result d }
+    ensures only { (d : Desc) → IsMethodDesc text.now d → GivesDesc result d }
 
     // A fault is the text's.
     ensures fault { IfErr result (λ e. IfFault e (MethodFault text.now)) }
 
     // A text is refused for its fault, unless memory runs out.
-    ensures exact { (f : DescFault) → MethodFault text.now f → Refuses result f }
+    ensures exact { (f : DescFault) → MethodFault text.now f → RefusesFor result f }
 {
     Ok(Desc::Method(method_of(alloc, text.as_slice())?))
 }

@@ -1,5 +1,5 @@
 ghost use Rattle.std.specs.Prelude.{◌≡◌, ◌≢◌, ℕ, ◌+◌, ◌<◌, ◌≤◌, ◌^◌, ◌⊎◌, List, ◌∷◌, [], ◌++◌, IfSome, IsNone, MatchOption, IfOk, IfErr, OnOk};
-ghost use Rattle.jv_names.specs.Utf8.{unit_bytes, utf8, SpellsText, BeginsNoUnit, StopsAt, IsFirstBad, Gives, Refuses, IfBad};
+ghost use Rattle.jv_names.specs.Utf8.{unit_bytes, utf8, SpellsText, BeginsNoUnit, StopsAt, IsFirstBad, GivesText, RefusesAt, IfBad};
 
 use crate::Units;
 use std::alloc::{AllocError, Global};
@@ -101,13 +101,13 @@ pub fn units_of(alloc: Global, bytes: &[u8]) -> Result<Units, TextFault>
     ensures found { IfOk result (λ units. SpellsText units bytes.now) }
 
     // What is spelled so is read, unless memory runs out.
-    ensures only { (units : List ℕ) → SpellsText units bytes.now → Gives result units }
+    ensures only { (units : List ℕ) → SpellsText units bytes.now → GivesText result units }
 
     // A fault is at the first byte that begins no unit.
     ensures fault { IfErr result (λ e. IfBad e (IsFirstBad bytes.now)) }
 
     // Bytes with such a byte are refused for it, unless memory runs out.
-    ensures exact { (offset : ℕ) → IsFirstBad bytes.now offset → Refuses result offset }
+    ensures exact { (offset : ℕ) → IsFirstBad bytes.now offset → RefusesAt result offset }
 {
     let (units, rest) = front_units(alloc, bytes)?;
     if rest.is_empty() {
@@ -135,9 +135,10 @@ fn put_unit(bytes: &mut Vec<u8>, unit: u16) -> Result<(), AllocError>
     Ok(())
 }
 
-/// The bytes that spell a text in modified UTF-8 (JVM specification 4.4.7), which each text has.
+/// The bytes that spell a text in modified UTF-8 (JVM specification 4.4.7), which each text has. `units_of` reads them to
+/// the same text.
 pub fn utf8_of(alloc: Global, units: &Units) -> Result<Vec<u8>, AllocError>
-    ensures { IfOk result (λ bytes. bytes.items ≡ utf8 units.now) }
+    ensures { IfOk result (λ bytes. SpellsText units.now bytes.items) }
 {
     let mut bytes = Vec::with_capacity(alloc, units.as_slice().len())?;
     for unit in units.as_slice() {
