@@ -14,19 +14,20 @@ use Rattle.class_tree.specs.declared.members.Attr.TheVariants.{Body, Constant}
 
 -- ---- the constant pool: section 4.4
 
--- section 4.1: entries are numbered from 1
+-- the entry at an index: section 4.1 numbers them from 1
 abbrev pub entry_at : List Const → ℕ → Option Const
 entry_at pool index = if index == 0 then None else slice_get pool (index - 1)
 
--- section 4.4.7
+-- the text of an entry: section 4.4.7
 abbrev pub text_of : Const → Option Name
 text_of (Utf8 text) = Some text
 text_of _ = None
 
+-- the text at an index
 abbrev pub text_at : List Const → ℕ → Option Name
 text_at pool index = option_and_then text_of (entry_at pool index)
 
--- section 4.4.1
+-- the name of the class that an entry stands for: section 4.4.1
 abbrev pub class_of : List Const → Const → Option Name
 class_of pool (Class name) = text_at pool name
 class_of pool _ = None
@@ -34,7 +35,7 @@ class_of pool _ = None
 abbrev pub class_at : List Const → ℕ → Option Name
 class_at pool index = option_and_then (class_of pool) (entry_at pool index)
 
--- section 4.4.6: a name and a descriptor
+-- the name and the descriptor of an entry: section 4.4.6
 abbrev pub name_type_of : List Const → Const → Option (Name × Name)
 name_type_of pool (NameType name desc) = option_zip (text_at pool name) (text_at pool desc)
 name_type_of pool _ = None
@@ -67,7 +68,7 @@ abbrev pub first_of : {A B : Type 0} → (A → Option B) → List A → Option 
 first_of of [] = None
 first_of of (x ∷ xs) = option_or (of x) (first_of of xs)
 
--- section 4.7.3
+-- the body of a method: section 4.7.3
 abbrev pub body_of : Attr → Option Code
 body_of (Body name code) = Some code
 body_of _ = None
@@ -75,7 +76,7 @@ body_of _ = None
 abbrev pub code_of : List Attr → Option Code
 code_of attrs = first_of body_of attrs
 
--- section 4.7.2: the index of the value
+-- the index of the value of a field: section 4.7.2
 abbrev pub value_of : Attr → Option ℕ
 value_of (Constant name value) = Some value
 value_of _ = None
@@ -83,7 +84,7 @@ value_of _ = None
 abbrev pub constant_of : List Attr → Option ℕ
 constant_of attrs = first_of value_of attrs
 
--- section 4.7.4
+-- the entries of the stack map of a code: section 4.7.4
 abbrev pub entries_of : CodeAttr → Option (List StackMapFrame)
 entries_of (Frames name entries) = Some entries
 entries_of _ = None

@@ -64,6 +64,7 @@ pub struct Flags {
 }
 
 impl Flags {
+    /// Whether the bit of a flag is set.
     pub fn has(self, flag: Flag) -> bool
         ensures { IsTrue result ↔ HasFlag self.bits flag }
     {

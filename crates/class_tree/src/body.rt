@@ -95,12 +95,12 @@ impl Same for Handler {
 impl Same for CodeAttr {
     fn same(&self, other: &CodeAttr) -> bool {
         match (self, other) {
-            (CodeAttr::Raw { name, bytes }, CodeAttr::Raw { name: a, bytes: b }) => {
+            (Self::Raw { name, bytes }, Self::Raw { name: a, bytes: b }) => {
                 name == a && bytes.as_slice() == b.as_slice()
             }
             (
-                CodeAttr::Frames { name, entries },
-                CodeAttr::Frames {
+                Self::Frames { name, entries },
+                Self::Frames {
                     name: a,
                     entries: b,
                 },
@@ -113,11 +113,11 @@ impl Same for CodeAttr {
 impl CloneIn for CodeAttr {
     fn clone_in(&self, alloc: Global) -> Result<CodeAttr, AllocError> {
         Ok(match self {
-            CodeAttr::Raw { name, bytes } => CodeAttr::Raw {
+            Self::Raw { name, bytes } => Self::Raw {
                 name: *name,
                 bytes: Items::from_slice(alloc, bytes.as_slice())?,
             },
-            CodeAttr::Frames { name, entries } => CodeAttr::Frames {
+            Self::Frames { name, entries } => Self::Frames {
                 name: *name,
                 entries: entries.clone_in(alloc)?,
             },

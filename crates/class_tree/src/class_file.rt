@@ -10,7 +10,9 @@ use std::alloc::{AllocError, Global};
 /// number of an entry as the file has it: the first entry has the number 1, and no entry the number 0.
 #[derive(Drop)]
 pub struct ClassFile {
+    /// The minor number of the format's version.
     pub minor: u16,
+    /// The major number of the format's version, as 52 for SE 8.
     pub major: u16,
     /// The constant pool, from entry 1 on.
     pub pool: Items<Const>,

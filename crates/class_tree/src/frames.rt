@@ -18,14 +18,14 @@ pub enum VerificationType {
     Uninitialized(u16),
 }
 
-/// An `offset_delta` that a frame's own tag holds, in bytes.
+/// An `offset_delta`, in bytes, that the tag of a frame tells with its kind.
 #[derive(Clone, Copy)]
 pub struct ShortDelta {
     pub value: u8,
     pub ghost short: { value < 64 },
 }
 
-/// How many of the last locals a frame drops.
+/// How many locals a frame drops, the last ones.
 #[derive(Clone, Copy, PartialEq)]
 pub enum Chopped {
     One,
@@ -42,8 +42,8 @@ pub enum Appended {
 }
 
 /// An entry of a stack map: a `stack_map_frame` (4.7.4), which tells the types of the locals and of the operand stack at
-/// an offset of the code. `delta`, in bytes, is the offset for the first frame, and for each other one the distance from
-/// the frame before, less one.
+/// an offset of the code. `delta`, in bytes, is the offset of the first frame, and of each other one the distance from the
+/// frame before, less one.
 #[derive(Drop)]
 pub enum StackMapFrame {
     /// The locals of the frame before, and no stack.
@@ -63,13 +63,13 @@ pub enum StackMapFrame {
     /// The locals of the frame before but the last ones, and no stack.
     Chop {
         delta: u16,
-        locals: Chopped,
+        count: Chopped,
     },
     /// As `Same`, with a delta of its own.
     SameExtended {
         delta: u16,
     },
-    /// The locals of the frame before and some more, and no stack.
+    /// The locals of the frame before and these, and no stack.
     Append {
         delta: u16,
         locals: Appended,
@@ -85,14 +85,13 @@ pub enum StackMapFrame {
 impl Same for VerificationType {
     fn same(&self, other: &VerificationType) -> bool {
         match (self, other) {
-            (VerificationType::Top, VerificationType::Top)
-            | (VerificationType::Integer, VerificationType::Integer)
-            | (VerificationType::Long, VerificationType::Long)
-            | (VerificationType::Null, VerificationType::Null)
-            | (VerificationType::UninitializedThis, VerificationType::UninitializedThis) => true,
-            (VerificationType::Object(class), VerificationType::Object(with)) => class == with,
-            (VerificationType::Uninitialized(at), VerificationType::Uninitialized(with)) => at
-                == with,
+            (Self::Top, Self::Top)
+            | (Self::Integer, Self::Integer)
+            | (Self::Long, Self::Long)
+            | (Self::Null, Self::Null)
+            | (Self::UninitializedThis, Self::UninitializedThis) => true,
+            (Self::Object(class), Self::Object(with)) => class == with,
+            (Self::Uninitialized(at), Self::Uninitialized(with)) => at == with,
             _ => false,
         }
     }
@@ -107,9 +106,9 @@ impl Same for ShortDelta {
 impl Same for Appended {
     fn same(&self, other: &Appended) -> bool {
         match (self, other) {
-            (Appended::One(first), Appended::One(a)) => first.same(a),
-            (Appended::Two(first, second), Appended::Two(a, b)) => first.same(a) && second.same(b),
-            (Appended::Three(first, second, third), Appended::Three(a, b, c)) => {
+            (Self::One(first), Self::One(a)) => first.same(a),
+            (Self::Two(first, second), Self::Two(a, b)) => first.same(a) && second.same(b),
+            (Self::Three(first, second, third), Self::Three(a, b, c)) => {
                 first.same(a) && second.same(b) && third.same(c)
             }
             _ => false,
@@ -120,40 +119,33 @@ impl Same for Appended {
 impl Same for StackMapFrame {
     fn same(&self, other: &StackMapFrame) -> bool {
         match (self, other) {
-            (StackMapFrame::Same { delta }, StackMapFrame::Same { delta: with }) => delta.same(
-                with,
-            ),
+            (Self::Same { delta }, Self::Same { delta: a }) => delta.same(a),
             (
-                StackMapFrame::SameLocals1StackItem { delta, stack },
-                StackMapFrame::SameLocals1StackItem { delta: a, stack: b },
+                Self::SameLocals1StackItem { delta, stack },
+                Self::SameLocals1StackItem { delta: a, stack: b },
             ) => delta.same(a) && stack.same(b),
             (
-                StackMapFrame::SameLocals1StackItemExtended { delta, stack },
-                StackMapFrame::SameLocals1StackItemExtended { delta: a, stack: b },
+                Self::SameLocals1StackItemExtended { delta, stack },
+                Self::SameLocals1StackItemExtended { delta: a, stack: b },
             ) => delta == a && stack.same(b),
+            (Self::Chop { delta, count }, Self::Chop { delta: a, count: b }) => {
+                delta == a && count == b
+            }
+            (Self::SameExtended { delta }, Self::SameExtended { delta: a }) => delta == a,
             (
-                StackMapFrame::Chop { delta, locals },
-                StackMapFrame::Chop {
+                Self::Append { delta, locals },
+                Self::Append {
                     delta: a,
                     locals: b,
                 },
-            ) => delta == a && locals == b,
-            (StackMapFrame::SameExtended { delta }, StackMapFrame::SameExtended { delta: with }) =>
-                delta == with,
+            ) => { delta == a && locals.same(b) }
             (
-                StackMapFrame::Append { delta, locals },
-                StackMapFrame::Append {
-                    delta: a,
-                    locals: b,
-                },
-            ) => delta == a && locals.same(b),
-            (
-                StackMapFrame::Full {
+                Self::Full {
                     delta,
                     locals,
                     stack,
                 },
-                StackMapFrame::Full {
+                Self::Full {
                     delta: a,
                     locals: b,
                     stack: c,
@@ -167,33 +159,31 @@ impl Same for StackMapFrame {
 impl CloneIn for StackMapFrame {
     fn clone_in(&self, alloc: Global) -> Result<StackMapFrame, AllocError> {
         Ok(match self {
-            StackMapFrame::Same { delta } => StackMapFrame::Same { delta: *delta },
-            StackMapFrame::SameLocals1StackItem { delta, stack } => {
-                StackMapFrame::SameLocals1StackItem {
+            Self::Same { delta } => Self::Same { delta: *delta },
+            Self::SameLocals1StackItem { delta, stack } => Self::SameLocals1StackItem {
+                delta: *delta,
+                stack: *stack,
+            },
+            Self::SameLocals1StackItemExtended { delta, stack } => {
+                Self::SameLocals1StackItemExtended {
                     delta: *delta,
                     stack: *stack,
                 }
             }
-            StackMapFrame::SameLocals1StackItemExtended { delta, stack } => {
-                StackMapFrame::SameLocals1StackItemExtended {
-                    delta: *delta,
-                    stack: *stack,
-                }
-            }
-            StackMapFrame::Chop { delta, locals } => StackMapFrame::Chop {
+            Self::Chop { delta, count } => Self::Chop {
+                delta: *delta,
+                count: *count,
+            },
+            Self::SameExtended { delta } => Self::SameExtended { delta: *delta },
+            Self::Append { delta, locals } => Self::Append {
                 delta: *delta,
                 locals: *locals,
             },
-            StackMapFrame::SameExtended { delta } => StackMapFrame::SameExtended { delta: *delta },
-            StackMapFrame::Append { delta, locals } => StackMapFrame::Append {
-                delta: *delta,
-                locals: *locals,
-            },
-            StackMapFrame::Full {
+            Self::Full {
                 delta,
                 locals,
                 stack,
-            } => StackMapFrame::Full {
+            } => Self::Full {
                 delta: *delta,
                 locals: Items::from_slice(alloc, locals.as_slice())?,
                 stack: Items::from_slice(alloc, stack.as_slice())?,

@@ -76,13 +76,13 @@ impl CloneIn for Member {
 impl Same for Attr {
     fn same(&self, other: &Attr) -> bool {
         match (self, other) {
-            (Attr::Raw { name, bytes }, Attr::Raw { name: a, bytes: b }) => {
+            (Self::Raw { name, bytes }, Self::Raw { name: a, bytes: b }) => {
                 name == a && bytes.as_slice() == b.as_slice()
             }
-            (Attr::Body { name, code }, Attr::Body { name: a, code: b }) => {
+            (Self::Body { name, code }, Self::Body { name: a, code: b }) => {
                 name == a && code.same(b)
             }
-            (Attr::Constant { name, value }, Attr::Constant { name: a, value: b }) => {
+            (Self::Constant { name, value }, Self::Constant { name: a, value: b }) => {
                 name == a && value == b
             }
             _ => false,
@@ -93,15 +93,15 @@ impl Same for Attr {
 impl CloneIn for Attr {
     fn clone_in(&self, alloc: Global) -> Result<Attr, AllocError> {
         Ok(match self {
-            Attr::Raw { name, bytes } => Attr::Raw {
+            Self::Raw { name, bytes } => Self::Raw {
                 name: *name,
                 bytes: Items::from_slice(alloc, bytes.as_slice())?,
             },
-            Attr::Body { name, code } => Attr::Body {
+            Self::Body { name, code } => Self::Body {
                 name: *name,
                 code: code.clone_in(alloc)?,
             },
-            Attr::Constant { name, value } => Attr::Constant {
+            Self::Constant { name, value } => Self::Constant {
                 name: *name,
                 value: *value,
             },

@@ -31,18 +31,18 @@ pub enum Const {
 impl Same for Const {
     fn same(&self, other: &Const) -> bool {
         match (self, other) {
-            (Const::Utf8(text), Const::Utf8(with)) => text.same(with),
-            (Const::Integer(value), Const::Integer(with)) => value == with,
-            (Const::Long(value), Const::Long(with)) => value == with,
-            (Const::Class(name), Const::Class(with)) => name == with,
-            (Const::Text(text), Const::Text(with)) => text == with,
-            (Const::Field(class, name_type), Const::Field(a, b)) => class == a && name_type == b,
-            (Const::Method(class, name_type), Const::Method(a, b)) => class == a && name_type == b,
-            (Const::InterfaceMethod(class, name_type), Const::InterfaceMethod(a, b)) => {
+            (Self::Utf8(text), Self::Utf8(with)) => text.same(with),
+            (Self::Integer(value), Self::Integer(with)) => value == with,
+            (Self::Long(value), Self::Long(with)) => value == with,
+            (Self::Class(name), Self::Class(with)) => name == with,
+            (Self::Text(text), Self::Text(with)) => text == with,
+            (Self::Field(class, name_type), Self::Field(a, b)) => class == a && name_type == b,
+            (Self::Method(class, name_type), Self::Method(a, b)) => class == a && name_type == b,
+            (Self::InterfaceMethod(class, name_type), Self::InterfaceMethod(a, b)) => {
                 class == a && name_type == b
             }
-            (Const::NameType(name, desc), Const::NameType(a, b)) => name == a && desc == b,
-            (Const::Unused, Const::Unused) => true,
+            (Self::NameType(name, desc), Self::NameType(a, b)) => name == a && desc == b,
+            (Self::Unused, Self::Unused) => true,
             _ => false,
         }
     }
@@ -51,16 +51,16 @@ impl Same for Const {
 impl CloneIn for Const {
     fn clone_in(&self, alloc: Global) -> Result<Const, AllocError> {
         Ok(match self {
-            Const::Utf8(text) => Const::Utf8(text.clone_in(alloc)?),
-            Const::Integer(value) => Const::Integer(*value),
-            Const::Long(value) => Const::Long(*value),
-            Const::Class(name) => Const::Class(*name),
-            Const::Text(text) => Const::Text(*text),
-            Const::Field(class, name_type) => Const::Field(*class, *name_type),
-            Const::Method(class, name_type) => Const::Method(*class, *name_type),
-            Const::InterfaceMethod(class, name_type) => Const::InterfaceMethod(*class, *name_type),
-            Const::NameType(name, desc) => Const::NameType(*name, *desc),
-            Const::Unused => Const::Unused,
+            Self::Utf8(text) => Self::Utf8(text.clone_in(alloc)?),
+            Self::Integer(value) => Self::Integer(*value),
+            Self::Long(value) => Self::Long(*value),
+            Self::Class(name) => Self::Class(*name),
+            Self::Text(text) => Self::Text(*text),
+            Self::Field(class, name_type) => Self::Field(*class, *name_type),
+            Self::Method(class, name_type) => Self::Method(*class, *name_type),
+            Self::InterfaceMethod(class, name_type) => Self::InterfaceMethod(*class, *name_type),
+            Self::NameType(name, desc) => Self::NameType(*name, *desc),
+            Self::Unused => Self::Unused,
         })
     }
 }

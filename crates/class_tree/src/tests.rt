@@ -347,11 +347,11 @@ fn compares_parts(rt: HostRuntime) -> Result<(), AllocError> {
         },
         StackMapFrame::Chop {
             delta: 9,
-            locals: Chopped::One,
+            count: Chopped::One,
         },
         StackMapFrame::Chop {
             delta: 9,
-            locals: Chopped::Two,
+            count: Chopped::Two,
         },
         StackMapFrame::SameExtended { delta: 9 },
         StackMapFrame::Append {
