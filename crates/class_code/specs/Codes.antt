@@ -30,7 +30,7 @@ use Rattle.class_code.specs.declared.instr.Simple.{Simple}
 use Rattle.class_code.specs.declared.instr.Simple.TheVariants as simple
 
 -- Opcodes that differ in the kind alone come in a row: int, long, float, double, reference. So do those that differ in
--- the width, the local variable or the element.
+-- the width, the local variable, the element or the condition.
 abbrev pub kind_place : Kind → ℕ
 kind_place kind.Int = 0
 kind_place kind.Long = 1

@@ -17,23 +17,24 @@ IsCut n bytes why = (why ≡ instr_fault.Truncated) × (length bytes < n)
 
 -- ---- newarray, invokeinterface and wide
 
--- its code: 6 and 7 are float and double, and 4 to 11 are all that there are
+-- a code of `newarray` that is not allowed: 6 and 7 are float and double, and 4 to 11 are all that there are
 abbrev pub PrimitiveFault : ℕ → InstrFault → Type 0
 PrimitiveFault code instr_fault.Floating = (code ≡ 6) ⊎ (code ≡ 7)
 PrimitiveFault code instr_fault.BadOperand = (code < 4) ⊎ (11 < code)
 PrimitiveFault code instr_fault.Unsupported = ⊥
 PrimitiveFault code instr_fault.Truncated = ⊥
 
+-- that, or no code
 abbrev pub NewArrayFault : List ℕ → InstrFault → Type 0
 NewArrayFault [] why = why ≡ instr_fault.Truncated
 NewArrayFault (code ∷ bytes) why = PrimitiveFault code why
 
--- its fourth operand is 0
+-- the fourth operand of `invokeinterface` is not 0, or the four are cut off
 abbrev pub InterfaceFault : List ℕ → InstrFault → Type 0
 InterfaceFault (a ∷ b ∷ count ∷ fourth ∷ bytes) why = (why ≡ instr_fault.BadOperand) × (fourth ≢ 0)
 InterfaceFault bytes why = IsCut 4 bytes why
 
--- behind `wide`, an opcode of this form: 0xa9 is `ret`
+-- behind `wide`, what is wrong with an opcode of this form, 0xa9 being `ret`, or with the operands behind it
 abbrev pub WidenedFault : ℕ → Form → List ℕ → InstrFault → Type 0
 WidenedFault b (form.Load k) bytes why = IsCut 2 bytes why
 WidenedFault b (form.Store k) bytes why = IsCut 2 bytes why
@@ -42,6 +43,7 @@ WidenedFault b form.Floating bytes why = why ≡ instr_fault.Floating
 WidenedFault b form.Unsupported bytes why = ((b ≡ 0xa9) × (why ≡ instr_fault.Unsupported)) ⊎ ((b ≢ 0xa9) × (why ≡ instr_fault.BadOperand))
 WidenedFault b f bytes why = why ≡ instr_fault.BadOperand
 
+-- that, or no opcode
 abbrev pub WideFault : List ℕ → InstrFault → Type 0
 WideFault [] why = why ≡ instr_fault.Truncated
 WideFault (b ∷ bytes) why = (f : Form) × IsForm b f × WidenedFault b f bytes why
@@ -58,10 +60,11 @@ pub record IsTableHead (at : ℕ) (bytes : List ℕ) (padding : Padding) (defaul
 abbrev pub IsCount : ℤ → ℤ → ℕ → Type 0
 IsCount low high n = pos n +ℤ low ≡ high +ℤ pos 1
 
--- its low bound is above its high one, or else its offsets are cut off
+-- behind the head: the low bound is above the high one, or else the offsets are cut off
 abbrev pub TableRestFault : ℤ → ℤ → List ℕ → InstrFault → Type 0
 TableRestFault low high rest why = ((high <ℤ low) × (why ≡ instr_fault.BadOperand)) ⊎ ((n : ℕ) × (low ≤ℤ high) × IsCount low high n × IsCut (4 * n) rest why)
 
+-- its head is cut off, or else that
 abbrev pub TableFault : ℕ → List ℕ → InstrFault → Type 0
 TableFault at bytes why = IsCut (padding_len at + 12) bytes why
     ⊎ ((padding : Padding) × (default : ℤ) × (low : ℤ) × (high : ℤ) × (rest : List ℕ) × IsTableHead at bytes padding default low high rest × TableRestFault low high rest why)
@@ -99,11 +102,12 @@ pub record PairsFault (count : ℕ) (bytes : List ℕ) (why : InstrFault) : Type
   pub fits : AllByRecursion PairFits front
   pub fault : PairFault (last_key None front) rest why
 
--- its count is below 0, or else a pair is at fault
+-- behind the head: the count is below 0, or else a pair is at fault
 abbrev pub LookupRestFault : ℤ → List ℕ → InstrFault → Type 0
 LookupRestFault (negsuc n) rest why = why ≡ instr_fault.BadOperand
 LookupRestFault (pos n) rest why = PairsFault n rest why
 
+-- its head is cut off, or else that
 abbrev pub LookupFault : ℕ → List ℕ → InstrFault → Type 0
 LookupFault at bytes why = IsCut (padding_len at + 8) bytes why
     ⊎ ((padding : Padding) × (default : ℤ) × (count : ℤ) × (rest : List ℕ) × IsLookupHead at bytes padding default count rest × LookupRestFault count rest why)

@@ -8,7 +8,7 @@ use Rattle.class_code.specs.declared.fault.CodeFault.TheVariants as fault
 use Rattle.class_code.specs.Listing.{spelled, InPlace, IsSpelled, astray}
 use Rattle.class_code.specs.Faults.{HeadFault}
 
--- behind instructions that stand at the code's front, none begins, which is at this offset
+-- Instructions stand at the code's front, and behind them, at this offset, no further one begins, for this cause.
 pub record StopsAt (code : List ℕ) (why : InstrFault) (at : ℕ) : Type 0 where
   pub front : List (ℕ × Instr)
   pub rest : List ℕ

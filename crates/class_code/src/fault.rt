@@ -60,13 +60,15 @@ pub enum CodeFault {
     /// An instruction of `float` or `double`, also behind `wide`, or `newarray` of one of the two.
     #[error("an instruction of float or double at {0}")]
     Floating(u16),
-    /// `jsr`, `ret`, `invokedynamic`, `jsr_w`, `ret` behind `wide`, or an opcode that no instruction has.
+    /// `jsr`, `ret`, `invokedynamic`, `jsr_w`, `ret` behind `wide`, or an opcode that no instruction in code has.
     #[error("an instruction that is not supported at {0}")]
     Unsupported(u16),
     /// The code ends within an instruction. The offset is the code's length.
     #[error("an instruction is cut off at {0}")]
     Truncated(u16),
-    /// An operand that is not allowed, as far as the code alone tells it.
+    /// An operand that is not allowed, as far as the code alone tells it: a fourth one of `invokeinterface` that is not 0,
+    /// a code of `newarray` that is not in its table, bounds of a `tableswitch` the wrong way round, a count of a
+    /// `lookupswitch` below 0 or keys that do not rise, or `wide` before an opcode that it does not widen.
     #[error("an operand that is not allowed, of the instruction at {0}")]
     BadOperand(u16),
     /// A branch or a switch leads to where no instruction begins.

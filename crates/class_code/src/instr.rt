@@ -1,6 +1,6 @@
 use sqlite_items::Items;
 
-/// What a local variable, an operand or a returned value is.
+/// What a load, a store or a return moves.
 #[derive(Clone, Copy)]
 pub enum Kind {
     Int,
@@ -15,7 +15,7 @@ pub enum Width {
     Long,
 }
 
-/// One of the first four local variables, which an opcode of one byte names (`iload_0` to `iload_3`).
+/// One of the first four local variables, which an opcode names by itself (`iload_0` to `iload_3`).
 #[derive(Clone, Copy)]
 pub enum Slot {
     Zero,

@@ -4,6 +4,10 @@
 //! `decode` answers that list, or the first fault of a code that has none; `length_at` answers how long one instruction is.
 //! Neither looks at the constant pool or at types: what the code alone does not tell to be wrong is accepted.
 //!
+//! It is proved that `decode` answers a list where the code has one, and then that list, and else the code's first fault,
+//! unless memory runs out; and that `length_at` answers a length where a whole instruction begins, and nowhere else. It is
+//! tested that the list is as long as that of `javap`.
+//!
 //! The definitions in `specs/` are in the order of `specs/Lib.antt`: the opcodes (`Codes`), how an instruction is spelled
 //! and where it may stand (`Spelling`, `Ranges`), the list of a code (`Listing`), and the first fault (`Forms`, `Faults`,
 //! `FirstFaults`).
