@@ -4,6 +4,7 @@ use Rattle.std.proofs.lemmas.List.{append-nil}
 use Rattle.jv_names.specs.Utf8.{unit_bytes, utf8, AreUnits, SpellsText, BeginsNoUnit, StopsAt, IsFirstBad}
 use Rattle.jv_names.proofs.UnitBytes.{one_unit, some_byte}
 
+-- two fronts of the same bytes, behind each of which no unit stands
 same_front : (xs ys r s : List ℕ) → AreUnits xs → AreUnits ys → BeginsNoUnit r → BeginsNoUnit s → utf8 xs ++ r ≡ utf8 ys ++ s → (xs ≡ ys) × (r ≡ s)
 same_front [] [] r s small little ends stops e = (refl, e)
 same_front [] (y ∷ ys) r s small little ends stops e = absurd (ends y (utf8 ys ++ s) little.0 (e ∙ append_assoc (unit_bytes y) (utf8 ys) s))
@@ -28,6 +29,7 @@ end_begins_none unit after small e = absurd (omega (arith, fewer [] unit after e
 text_stops : (units bytes : List ℕ) → SpellsText units bytes → StopsAt bytes units []
 text_stops units bytes t = record { in_range = t.in_range; parts = t.spelled ∙ sym (append-nil (utf8 units)); stops = end_begins_none }
 
+-- where nothing is left, all is a text
 pub whole_text : (bytes front rest : List ℕ) → StopsAt bytes front rest → rest ≡ [] → SpellsText front bytes
 whole_text bytes front rest f e = record { in_range = f.in_range; spelled = f.parts ∙ ap (λ (r : List ℕ). utf8 front ++ r) e ∙ append-nil (utf8 front) }
 
@@ -35,6 +37,7 @@ whole_text bytes front rest f e = record { in_range = f.in_range; spelled = f.pa
 pub left_is_bad : (bytes front rest : List ℕ) → StopsAt bytes front rest → rest ≢ [] → IsFirstBad bytes (length bytes - length rest)
 left_is_bad bytes front rest f some = record { front = front; rest = rest; stops_at = f; more = some; place = omega (arith, ap length f.parts, length-append (utf8 front) rest) }
 
+-- Bytes have one text or one first bad byte, and not both.
 pub one_text : (bytes units others : List ℕ) → SpellsText units bytes → SpellsText others bytes → units ≡ others
 one_text bytes units others t o = (one_stop bytes units others [] [] (text_stops units bytes t) (text_stops others bytes o)).0
 

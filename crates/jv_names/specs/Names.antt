@@ -40,7 +40,7 @@ is_member_name name = not (length name == 0) && list_all is_member_unit name
 abbrev pub is_method_unit : ℕ → Bool
 is_method_unit unit = not (unit == 60) && not (unit == 62)
 
--- section 2.9: what initializes an instance, and a class
+-- section 2.9: `<init>`, which initializes an instance, and `<clinit>`, which initializes a class
 abbrev pub is_special_name : Name → Bool
 is_special_name name = pointwise ◌==◌ name (codes "<init>") || pointwise ◌==◌ name (codes "<clinit>")
 

@@ -4,8 +4,7 @@ ghost use Rattle.std.specs.Fmt.{signed_decimal};
 use itoa::Buffer;
 use std::alloc::{AllocError, Global};
 
-/// A number in decimal, as ASCII: a minus sign where it is below 0, and its digits, of which the first is no 0 but for the
-/// number 0.
+/// The number in decimal, as ASCII: a minus sign where it is below 0, and its digits, with no 0 in front.
 pub fn decimal(alloc: Global, value: i64) -> Result<Vec<u8>, AllocError>
     ensures { IfOk result (λ text. text.items ≡ signed_decimal value) }
 {
