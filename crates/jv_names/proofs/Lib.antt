@@ -2,6 +2,7 @@ pub mod ClassNames
 pub mod Printing
 pub mod TextFronts
 pub mod UnitBytes
-pub mod Places
+pub mod DescriptorNames
+pub mod DescriptorPlaces
 pub mod DescriptorTexts
 pub mod Descriptors
