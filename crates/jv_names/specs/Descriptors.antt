@@ -14,6 +14,7 @@ use Rattle.jv_names.specs.Names.{Name, is_class_name}
 
 -- ---- the types that descriptors spell
 
+-- one that the code's types keep, and the two that they lack
 pub data AnyElement : Type 0 where
   Kept : ElementType → AnyElement
   Float : AnyElement

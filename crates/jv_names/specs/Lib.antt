@@ -1,4 +1,4 @@
-pub mod DescriptorReading
-pub mod Descriptors
 pub mod Names
 pub mod Utf8
+pub mod Descriptors
+pub mod DescriptorReading

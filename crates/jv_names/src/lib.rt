@@ -1,4 +1,5 @@
-//! Texts and names of the class-file format.
+//! Texts, names and descriptors of the class-file format (JVM specification 4.2, 4.3 and 4.4.7), and how names and numbers
+//! are printed.
 #![tactic(auto)]
 
 mod descriptor;

@@ -48,6 +48,7 @@ impl Units {
         Ok(Units { units })
     }
 
+    /// The units, in order.
     pub fn as_slice(&self) -> &[u16]
         ensures { result.now ≡ self.now }
     {
