@@ -48,6 +48,9 @@ ends_read : (at : ℕ) (rest : List ℕ) (x : Instr × List ℕ) → IsBytes res
 ends_read at rest x fits (inl e) read = let none : read_at at rest ≡ failed instr_fault.Truncated = rw e refl in let clash : done x ≡ failed instr_fault.Truncated = sym read ∙ none in cc
 ends_read at rest x fits (inr (w, e)) read = let clash : done x ≡ failed w = sym read ∙ fault_again at rest w fits e in cc
 
+pair_is : (p q : ℕ × Instr) → p.0 ≡ q.0 → p.1 ≡ q.1 → p ≡ q
+pair_is p q offset instr = ap (λ (o : ℕ). (o, p.1)) offset ∙ ap (λ (i : Instr). (q.0, i)) instr
+
 pub same_front : (at : ℕ) (ps qs : Pairs) (r s : List ℕ) → IsBytes (spelled ps ++ r) → InPlace at ps → InPlace at qs → Ends (at + length (spelled ps)) r → Ends (at + length (spelled qs)) s
     → spelled ps ++ r ≡ spelled qs ++ s → (ps ≡ qs) × (r ≡ s)
 same_front at [] [] r s fits pp qq pe qe e = (refl, e)
@@ -67,7 +70,7 @@ same_front at (p ∷ ps) (q ∷ qs) r s fits pp qq pe qe e =
     (subst (λ (o : ℕ). Ends o r) (omega (arith, length-append (spelling p.1) (spelled ps))) pe)
     (subst (λ (o : ℕ). Ends o s) (omega (arith, length-append (spelling q.1) (spelled qs))) qe) after in
     let here : p.0 ≡ q.0 = pp.0 ∙ sym qq.0 in
-    let pair : p ≡ q = ap (λ (o : ℕ). (o, p.1)) here ∙ ap (λ (i : Instr). (q.0, i)) same in
+    let pair : p ≡ q = pair_is p q here same in
     (ap (λ (x : ℕ × Instr). x ∷ ps) pair ∙ ap (λ (x : Pairs). q ∷ x) others.0, others.1)
 
 whole : (code : List ℕ) (ps : Pairs) → IsSpelled code ps → code ≡ spelled ps ++ []
