@@ -1,5 +1,5 @@
 -- The test of a member's name and descriptor, and the place of the first member that passes.
-use Rattle.std.proofs.Common.{◌≡◌, ℕ, ◌<◌, Bool, true, false, not, ◌&&◌, List, [], ◌∷◌, length, get_or, Option, Some, None, refl, sym, ap, ◌≤◌, arith}
+use Rattle.std.proofs.Common.{◌≡◌, ℕ, Bool, not, List, [], ◌∷◌, length, get_or, Option, Some, None, refl, sym, ap, ◌≤◌, arith}
 use Rattle.std.specs.Prelude.{position, All, IfSome, IsNone, slice_get}
 use Rattle.std.specs.Bool.{Decides}
 use Rattle.std.specs.List.{position_or_len}

@@ -79,6 +79,7 @@ impl Change {
 /// How many numbers of `sample` a change may be at, from 1 on.
 const PLACES: usize = 27;
 
+/// A code with a handler, a raw attribute, and two stack maps, of which the second is empty.
 fn code(alloc: Global, change: Change, max_stack: u16) -> Result<Code, AllocError>
     requires { max_stack < 2 ^ 15 }
 {
@@ -115,6 +116,7 @@ fn code(alloc: Global, change: Change, max_stack: u16) -> Result<Code, AllocErro
     })
 }
 
+/// A member with no attribute.
 fn member(alloc: Global, flags: u16, name: u16, desc: u16) -> Member {
     Member {
         flags: Flags { bits: flags },
@@ -234,6 +236,7 @@ fn looks_up_the_pool(rt: HostRuntime) -> Result<(), AllocError> {
     Ok(())
 }
 
+/// Names with descriptors, and the place among the methods and among the fields at which they stand first.
 #[test]
 fn finds_members(rt: HostRuntime) -> Result<(), AllocError> {
     let alloc = rt.alloc();
@@ -256,6 +259,7 @@ fn finds_members(rt: HostRuntime) -> Result<(), AllocError> {
     Ok(())
 }
 
+/// Of each method the depth of the stack of its first body, and of each field its descriptor and the index of its value.
 #[test]
 fn reads_members(rt: HostRuntime) -> Result<(), AllocError> {
     let class = sample(rt.alloc(), Change { at: 0 })?;
@@ -330,13 +334,6 @@ fn compares_parts(rt: HostRuntime) -> Result<(), AllocError> {
         StackMapFrame::Same {
             delta: ShortDelta { value: 9 },
         },
-        StackMapFrame::Same {
-            delta: ShortDelta { value: 63 },
-        },
-        StackMapFrame::SameLocals1StackItem {
-            delta: ShortDelta { value: 9 },
-            stack: object,
-        },
         StackMapFrame::SameLocals1StackItem {
             delta: ShortDelta { value: 9 },
             stack: made,
@@ -347,21 +344,9 @@ fn compares_parts(rt: HostRuntime) -> Result<(), AllocError> {
         },
         StackMapFrame::Chop {
             delta: 9,
-            count: Chopped::One,
-        },
-        StackMapFrame::Chop {
-            delta: 9,
             count: Chopped::Two,
         },
         StackMapFrame::SameExtended { delta: 9 },
-        StackMapFrame::Append {
-            delta: 9,
-            locals: Appended::One(object),
-        },
-        StackMapFrame::Append {
-            delta: 9,
-            locals: Appended::Two(object, made),
-        },
         StackMapFrame::Append {
             delta: 9,
             locals: Appended::Three(object, made, object),
@@ -370,11 +355,6 @@ fn compares_parts(rt: HostRuntime) -> Result<(), AllocError> {
             delta: 9,
             locals: Items::new(alloc),
             stack: Items::from_slice(alloc, &[object])?,
-        },
-        StackMapFrame::Full {
-            delta: 9,
-            locals: Items::from_slice(alloc, &[object])?,
-            stack: Items::new(alloc),
         },
     ];
     for (i, frame) in frames.iter().enumerate() {

@@ -1,6 +1,3 @@
-use Rattle.std.proofs.Common.{◌≡◌, not, nat_eq, bit_and, ℕ, subst, sym}
-use Rattle.std.specs.Bool.{Decides}
-use Rattle.class_tree.specs.Flags.{HasFlag}
 use Rattle.class_tree.proofs.Flagged.{has_flag}
 use Rattle.class_tree.proofs.access.Flags.has.Goals as goal
 
