@@ -49,7 +49,7 @@ impl ClassFile {
         }
     }
 
-    /// The name in internal form of the `Class` at an index of the pool.
+    /// What the `Class` at an index of the pool names (4.4.1): a name in internal form, or the descriptor of an array class.
     pub fn class_at(&self, index: u16) -> Option<&Units>
         ensures { option_copied result ≡ class_at self.now.pool index }
     {

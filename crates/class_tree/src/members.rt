@@ -19,11 +19,11 @@ pub struct Member {
 /// An attribute of a class, a field or a method (4.7). `name` is the pool's index of the text of the attribute's name.
 #[derive(Drop)]
 pub enum Attr {
-    /// One that is kept as its bytes, behind its length.
+    /// One that is kept as its bytes, behind its length: any that is none of the two below.
     Raw { name: u16, bytes: Items<u8> },
-    /// A `Code` (4.7.3), of a method.
+    /// The `Code` of a method (4.7.3).
     Body { name: u16, code: Code },
-    /// A `ConstantValue` (4.7.2), of a field: the pool's index of the value.
+    /// The `ConstantValue` of a static field (4.7.2): the pool's index of the value.
     Constant { name: u16, value: u16 },
 }
 
