@@ -1,8 +1,8 @@
 ghost use Rattle.std.specs.Prelude.{◌≡◌, ◌↔◌, IsTrue};
 ghost use Rattle.class_tree.specs.Flags.{bit_of, HasFlag};
 
-/// An access flag of a class, a field or a method (tables 4.1-A, 4.5-A and 4.6-A). Some stand for one bit, since no kind
-/// of item has both.
+/// An access flag of a class, a field or a method (tables 4.1-A, 4.5-A and 4.6-A). Two that no item may both have can
+/// share a bit, so what a set bit means depends on whose flags they are.
 #[derive(Clone, Copy)]
 pub enum Flag {
     Public,

@@ -2,7 +2,7 @@ ghost use Rattle.std.specs.Prelude.{◌≡◌, ◌↔◌, IsTrue};
 
 use sqlite_items::Items;
 
-/// Equality of trees, field for field and item for item.
+/// Equality of trees, field for field and item for item, in time linear in the smaller one.
 pub trait Same {
     /// Whether both are one value.
     fn same(&self, other: &Self) -> bool
