@@ -1,8 +1,9 @@
-ghost use Rattle.std.specs.Prelude.{◌<◌};
+ghost use Rattle.std.specs.Prelude.{◌≡◌, ◌<◌};
 
 use crate::{CloneIn, Same};
 use sqlite_items::Items;
 use std::alloc::{AllocError, Global};
+use std::marker::Model;
 
 /// The type of a local variable or of an entry of the operand stack: a `verification_type_info` (4.7.4).
 #[derive(Clone, Copy)]
@@ -18,11 +19,40 @@ pub enum VerificationType {
     Uninitialized(u16),
 }
 
-/// An `offset_delta`, in bytes, that the tag of a frame tells with its kind.
+/// An `offset_delta`, in bytes, that the tag of a frame tells with its kind: a number below 64, as which contracts see it.
 #[derive(Clone, Copy)]
 pub struct ShortDelta {
-    pub value: u8,
-    pub ghost short: { value < 64 },
+    value: u8,
+}
+
+impl Model for ShortDelta {
+    ghost use Rattle.std.specs.Prelude.{ℕ, ◌<◌};
+
+    ghost Value = { ℕ };
+
+    ghost view = { λ d. d.value };
+
+    ghost invariant = { λ d. d.value < 64 };
+
+    ghost inverse = { λ n. record { value = n } };
+}
+
+impl ShortDelta {
+    /// The delta of so many bytes.
+    pub fn new(value: u8) -> ShortDelta
+        requires { value < 64 }
+        ensures { result ≡ value }
+    {
+        ShortDelta { value }
+    }
+
+    /// How many bytes it is.
+    pub fn value(self) -> u8
+        ensures same { result ≡ self }
+        ensures short { result < 64 }
+    {
+        self.value
+    }
 }
 
 /// How many locals a frame drops, the last ones.

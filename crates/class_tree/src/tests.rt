@@ -332,10 +332,10 @@ fn compares_parts(rt: HostRuntime) -> Result<(), AllocError> {
     let made = VerificationType::Uninitialized(4);
     let frames = [
         StackMapFrame::Same {
-            delta: ShortDelta { value: 9 },
+            delta: ShortDelta::new(9),
         },
         StackMapFrame::SameLocals1StackItem {
-            delta: ShortDelta { value: 9 },
+            delta: ShortDelta::new(9),
             stack: made,
         },
         StackMapFrame::SameLocals1StackItemExtended {
