@@ -35,7 +35,7 @@ not_none : (t : AnyType) (rest : Name) → None ≡ some_type t rest → ⊥
 not_none t rest e = none-some (t, rest) e
 
 -- a field's text is read whole
-field_read : (text : Name) (t : AnyType) → IsFieldText text t → read_type text ≡ Some (t, [])
+pub field_read : (text : Name) (t : AnyType) → IsFieldText text t → read_type text ≡ Some (t, [])
 field_read text t is = ap read_type (is.spelled ∙ sym (append-nil (type_text t))) ∙ read_type-text t [] is.named
 
 kept-any : (n : ℕ) (e : AnyElement) (f : FieldType) → kept_type (record { dimensions = n; element = e }) ≡ Some f → any_type f ≡ record { dimensions = n; element = e }
@@ -77,7 +77,7 @@ more-field text kept rest more e t is =
     let k = kept_front text kept rest e in
     more (some_type-same k.type t rest [] (sym k.read ∙ field_read text t is)).1
 
-whole_field : (text : Name) (t : AnyType) → IsTypeFront text (t, []) → IsFieldText text t
+pub whole_field : (text : Name) (t : AnyType) → IsTypeFront text (t, []) → IsFieldText text t
 whole_field text t front = record { named = front.named; spelled = front.spelled ∙ append-nil (type_text t) }
 
 found-field : (text : Name) (f : FieldType) → option_map kept_part (read_type text) ≡ Some (Some f, []) → IsFieldText text (any_type f)
@@ -126,11 +126,11 @@ kept_types-push : (ts : List AnyType) (t : AnyType) → kept_types (ts ++ t ∷ 
 kept_types-push [] t = with_kept-nil (kept_type t)
 kept_types-push (u ∷ us) t = ap (with_kept (kept_type u)) (kept_types-push us t) ∙ with_kept-with_last (kept_type u) (kept_type t) (kept_types us)
 
-named-push : (ts : List AnyType) (t : AnyType) → AllByRecursion IsNamedType ts → IsNamedType t → AllByRecursion IsNamedType (ts ++ t ∷ [])
+pub named-push : (ts : List AnyType) (t : AnyType) → AllByRecursion IsNamedType ts → IsNamedType t → AllByRecursion IsNamedType (ts ++ t ∷ [])
 named-push [] t all last = (last, tt)
 named-push (u ∷ us) t all last = (all.0, named-push us t all.1 last)
 
-texts-push : (ts : List AnyType) (t : AnyType) (rest after : Name) → rest ≡ type_text t ++ after → flat_map type_text ts ++ rest ≡ flat_map type_text (ts ++ t ∷ []) ++ after
+pub texts-push : (ts : List AnyType) (t : AnyType) (rest after : Name) → rest ≡ type_text t ++ after → flat_map type_text ts ++ rest ≡ flat_map type_text (ts ++ t ∷ []) ++ after
 texts-push ts t rest after e =
     rw (e, flat_map-append type_text ts (t ∷ []), append-nil (type_text t)) (sym (append_assoc (flat_map type_text ts) (type_text t) after))
 
@@ -156,7 +156,7 @@ cancel_type : (t u : AnyType) (r s : Name) → IsNamedType t → IsNamedType u �
 cancel_type t u r s tn un e = some_type-same t u r s (sym (read_type-text t r tn) ∙ ap read_type e ∙ read_type-text u s un)
 
 -- a text behind types, with no type and no `)` in front of it
-stuck : (ds ts : List AnyType) (rest tail : Name) → AllByRecursion IsNamedType ds → AllByRecursion IsNamedType ts → read_type rest ≡ None → ((after : Name) → rest ≢ 41 ∷ after)
+pub stuck : (ds ts : List AnyType) (rest tail : Name) → AllByRecursion IsNamedType ds → AllByRecursion IsNamedType ts → read_type rest ≡ None → ((after : Name) → rest ≢ 41 ∷ after)
     → flat_map type_text ds ++ rest ≡ flat_map type_text ts ++ 41 ∷ tail → ⊥
 stuck [] [] rest tail dn tn unread no_end e = no_end tail e
 stuck [] (t ∷ ts) rest tail dn tn unread no_end e =
@@ -286,11 +286,11 @@ method_apart text m n mi ni =
 
 -- ---- the clauses of the two calls
 
-not_floating-any : (ps : List FieldType) → list_any is_floating_type (map any_type ps) ≡ false
+pub not_floating-any : (ps : List FieldType) → list_any is_floating_type (map any_type ps) ≡ false
 not_floating-any [] = refl
 not_floating-any (p ∷ ps) = not_floating-any ps
 
-not_floating-result : (r : Option FieldType) → is_floating_result (option_map any_type r) ≡ false
+pub not_floating-result : (r : Option FieldType) → is_floating_result (option_map any_type r) ≡ false
 not_floating-result None = refl
 not_floating-result (Some t) = refl
 

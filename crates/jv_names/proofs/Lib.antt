@@ -6,3 +6,5 @@ pub mod DescriptorNames
 pub mod DescriptorPlaces
 pub mod DescriptorTexts
 pub mod Descriptors
+pub mod DescriptorFlaws
+pub mod TextReading

@@ -1,14 +1,17 @@
--- How the code reads a type at the front of a text. No public clause cites it.
-use Rattle.std.specs.Prelude.{List, ◌++◌, flat_map, ◌==◌, IsTrue, ◌≡◌, ℕ, ◌+◌, [], ◌∷◌, take, drop, not, if◌then◌else◌, Option, Some, None, option_map, Result, Ok, Err}
+-- How the code reads a type at the front of a text. No public clause cites it but by DescriptorFlaws.antt.
+use Rattle.std.specs.Prelude.{List, ◌++◌, flat_map, ◌==◌, IsTrue, ◌≡◌, ℕ, ◌+◌, [], ◌∷◌, take, drop, Bool, not, if◌then◌else◌, Option, Some, None, option_map, Result, Ok, Err}
 use Rattle.std.specs.Option.{option_and_then}
-use Rattle.std.specs.List.{position, AllByRecursion}
+use Rattle.std.specs.List.{position, list_any, AllByRecursion}
 use Rattle.jv_names.specs.declared.descriptor.ElementType.{ElementType}
 use Rattle.jv_names.specs.declared.descriptor.ElementType.TheVariants.{Boolean, Byte, Char, Short, Int, Long, Class}
 use Rattle.jv_names.specs.declared.descriptor.FieldType.{FieldType}
+use Rattle.jv_names.specs.declared.descriptor.ReadElement.{ReadElement}
+use Rattle.jv_names.specs.declared.descriptor.ReadElement.TheVariants.{Kept as ReadKept, Float as ReadFloat, Double as ReadDouble, Class as ReadClass}
+use Rattle.jv_names.specs.declared.descriptor.ReadType.{ReadType}
 use Rattle.jv_names.specs.declared.descriptor.DescFault.{DescFault}
 use Rattle.jv_names.specs.declared.descriptor.DescFault.TheVariants.{Bad, Floating, Memory}
 use Rattle.jv_names.specs.Names.{Name, is_class_name}
-use Rattle.jv_names.specs.Descriptors.{AnyElement, Kept, Float, Double, AnyType, type_text, result_text, IsNamedType, IsNamedResult, is_floating_result}
+use Rattle.jv_names.specs.Descriptors.{AnyElement, Kept, Float, Double, AnyType, type_text, result_text, IsNamedType, IsNamedResult, is_floating_type, is_floating_result}
 
 -- where the first `;` stands
 unfoldable pub class_end : Name → Option ℕ
@@ -49,6 +52,17 @@ under dimensions x = (record { dimensions = dimensions; element = x.0 }, x.1)
 unfoldable pub read_type : Name → Option (AnyType × Name)
 read_type text = option_and_then (λ x. option_map (under x.0) (read_element x.1)) (split_dimensions text)
 
+-- ---- what the code holds of it before memory is taken
+
+abbrev pub any_element : ReadElement → AnyElement
+any_element (ReadKept element) = Kept element
+any_element ReadFloat = Float
+any_element ReadDouble = Double
+any_element (ReadClass name) = Kept (Class name.now)
+
+abbrev pub any_read : ReadType → AnyType
+any_read t = record { dimensions = t.dimensions; element = any_element t.element }
+
 -- ---- what the code answers of it: nothing for a type of floating point
 
 abbrev pub kept_element : AnyElement → Option ElementType
@@ -69,6 +83,15 @@ IsUnread read Memory = Unit {0}
 abbrev pub Reads : {A B V : Type 0} → (A → Option B) → (V → Option B × Name) → Result V DescFault → Option (A × Name) → Type 0
 Reads kept view (Ok answer) read = option_map (λ x. (kept x.0, x.1)) read ≡ Some (view answer)
 Reads kept view (Err fault) read = IsUnread read fault
+
+-- ---- whether what was read is of floating point, and what follows it
+
+abbrev pub floating_one : AnyType × Name → Bool × Name
+floating_one x = (is_floating_type x.0, x.1)
+
+-- one of these
+abbrev pub floating_some : List AnyType × Name → Bool × Name
+floating_some x = (list_any is_floating_type x.0, x.1)
 
 -- ---- several types, and a result
 

@@ -1,8 +1,9 @@
 ghost use Rattle.std.specs.Prelude.{◌≡◌, ◌≢◌, ℕ, ◌+◌, ◌<◌, List, ◌∷◌, length, MatchOption, IfOk, IfErr, IfSome, option_map};
 ghost use Rattle.jv_names.specs.declared.descriptor.Desc.{Desc};
 ghost use Rattle.jv_names.specs.declared.descriptor.DescFault.{DescFault};
-ghost use Rattle.jv_names.specs.DescriptorReading.{class_end as end_of_class, dimensions as dimensions_of, split_class, split_dimensions, read_class, read_element, read_type, kept_element, kept_type, Reads, with_last, AreParameters, IsNoParameters, IsResultText, ResultFault};
-ghost use Rattle.jv_names.specs.Descriptors.{any_type, any_method, IsFieldText, IsMethodText, IsFieldDesc, IsMethodDesc, FieldFault, MethodFault, GivesDesc, RefusesFor, IfFault};
+ghost use Rattle.jv_names.specs.DescriptorReading.{class_end as end_of_class, dimensions as dimensions_of, split_class, split_dimensions, read_class, read_element, read_type, any_element, any_read, kept_element, kept_type, Reads, floating_one, floating_some, with_last, AreParameters, IsNoParameters, IsResultText, ResultFault};
+ghost use Rattle.jv_names.specs.DescriptorFlaws.{read_field, read_parameters, read_result, read_method, flaw_of as flaw_by, field_flaw as flaw_of_field, method_flaw as flaw_of_method, IsFieldAnswer, IsMethodAnswer};
+ghost use Rattle.jv_names.specs.Descriptors.{any_type, any_method, is_floating, is_floating_type, is_floating_result as floating_result, is_floating_method as floating_method, IsFieldText, IsMethodText, IsFieldDesc, IsMethodDesc, FieldFault, MethodFault, GivesDesc, RefusesFor, IfFault};
 
 use crate::Units;
 use crate::name::has_class_form;
@@ -88,6 +89,17 @@ pub enum DescFault {
     Memory,
 }
 
+/// Why a text itself is no descriptor of the profile.
+#[derive(Clone, Copy, Debug, PartialEq, Eq, Error)]
+pub enum DescFlaw {
+    /// It is no descriptor of the wanted sort.
+    #[error("no descriptor")]
+    Bad,
+    /// It is a descriptor, with a float or a double in it.
+    #[error("a descriptor with a floating-point type")]
+    Floating,
+}
+
 impl From<AllocError> for DescFault {
     ghost use Rattle.jv_names.specs.declared.descriptor.DescFault.TheVariants.{Memory};
 
@@ -134,53 +146,100 @@ fn dimensions_split(units: &[u16]) -> Option<(usize, &[u16])>
     Some((dimensions, &units[dimensions..]))
 }
 
+/// An element as it was read, with no memory taken yet: a class's name still stands in the text.
+#[derive(Drop)]
+enum ReadElement<'a> {
+    Kept(ElementType),
+    Float,
+    Double,
+    Class(&'a [u16]),
+}
+
+impl ReadElement<'_> {
+    fn is_floating(&self) -> bool
+        ensures { result ≡ is_floating (any_element self.now) }
+    {
+        matches!(self, ReadElement::Float | ReadElement::Double)
+    }
+
+    /// The element, `None` for a float or a double.
+    fn kept(self, alloc: Global) -> Result<Option<ElementType>, AllocError>
+        ensures { IfOk result (λ e. e ≡ kept_element (any_element self.entry)) }
+    {
+        match self {
+            ReadElement::Kept(element) => Ok(Some(element)),
+            ReadElement::Float | ReadElement::Double => Ok(None),
+            ReadElement::Class(name) => {
+                Ok(Some(ElementType::Class(Units::new(name.to_vec(alloc)?))))
+            }
+        }
+    }
+}
+
+/// A type in the same way.
+#[derive(Drop)]
+struct ReadType<'a> {
+    dimensions: usize,
+    element: ReadElement<'a>,
+}
+
 /// The class whose name stands before the first `;`, and the units behind it.
 #[tactic(auto, unfolding(crate::specs::DescriptorReading::read_class))]
-fn class_at(alloc: Global, units: &[u16]) -> Result<(Option<ElementType>, &[u16]), DescFault>
-    ensures { Reads kept_element (λ x. (x.0, x.1.now)) result (read_class units.now) }
+fn class_front(units: &[u16]) -> Option<(ReadElement<'_>, &[u16])>
+    ensures { option_map (λ x. (any_element x.0, x.1.now)) result ≡ read_class units.now }
 {
-    let Some((name, rest)) = class_split(units) else {
-        return Err(DescFault::Bad);
-    };
-    if !has_class_form(name) {
-        return Err(DescFault::Bad);
+    let (name, rest) = class_split(units)?;
+    if has_class_form(name) {
+        Some((ReadElement::Class(name), rest))
+    } else {
+        None
     }
-    let class = ElementType::Class(Units::new(name.to_vec(alloc)?));
-    Ok((Some(class), rest))
 }
 
-/// The element at the front of the units, `None` for a float or a double, and the units behind it.
+/// The element at the front of the units, and the units behind it.
 #[tactic(auto, unfolding(crate::specs::DescriptorReading::read_element))]
-fn element_at(alloc: Global, units: &[u16]) -> Result<(Option<ElementType>, &[u16]), DescFault>
-    ensures { Reads kept_element (λ x. (x.0, x.1.now)) result (read_element units.now) }
+fn element_front(units: &[u16]) -> Option<(ReadElement<'_>, &[u16])>
+    ensures { option_map (λ x. (any_element x.0, x.1.now)) result ≡ read_element units.now }
 {
-    let Some((letter, rest)) = units.split_first() else {
-        return Err(DescFault::Bad);
-    };
+    let (letter, rest) = units.split_first()?;
     let element = match *letter {
-        BOOLEAN => ElementType::Boolean,
-        BYTE => ElementType::Byte,
-        CHAR => ElementType::Char,
-        SHORT => ElementType::Short,
-        INT => ElementType::Int,
-        LONG => ElementType::Long,
-        FLOAT | DOUBLE => return Ok((None, rest)),
-        CLASS => return class_at(alloc, rest),
-        _ => return Err(DescFault::Bad),
+        BOOLEAN => ReadElement::Kept(ElementType::Boolean),
+        BYTE => ReadElement::Kept(ElementType::Byte),
+        CHAR => ReadElement::Kept(ElementType::Char),
+        SHORT => ReadElement::Kept(ElementType::Short),
+        INT => ReadElement::Kept(ElementType::Int),
+        LONG => ReadElement::Kept(ElementType::Long),
+        FLOAT => ReadElement::Float,
+        DOUBLE => ReadElement::Double,
+        CLASS => return class_front(rest),
+        _ => return None,
     };
-    Ok((Some(element), rest))
+    Some((element, rest))
 }
 
-/// The type at the front of the units, `None` for one with a float or a double, and the units behind it.
+/// The type at the front of the units, and the units behind it.
 #[tactic(auto, unfolding(crate::specs::DescriptorReading::read_type))]
+fn type_front(units: &[u16]) -> Option<(ReadType<'_>, &[u16])>
+    ensures { option_map (λ x. (any_read x.0, x.1.now)) result ≡ read_type units.now }
+{
+    let (dimensions, rest) = dimensions_split(units)?;
+    let (element, rest) = element_front(rest)?;
+    let read = ReadType {
+        dimensions,
+        element,
+    };
+    Some((read, rest))
+}
+
+/// The same with memory taken for it, `None` in place of a type with a float or a double.
 fn type_at(alloc: Global, units: &[u16]) -> Result<(Option<FieldType>, &[u16]), DescFault>
     ensures { Reads kept_type (λ x. (x.0, x.1.now)) result (read_type units.now) }
 {
-    let Some((dimensions, rest)) = dimensions_split(units) else {
+    let Some((read, rest)) = type_front(units) else {
         return Err(DescFault::Bad);
     };
-    let (element, rest) = element_at(alloc, rest)?;
-    let kept = element.map(|element| FieldType {
+    let dimensions = read.dimensions;
+    let kept = read.element.kept(alloc)?.map(|element| FieldType {
         dimensions,
         element,
     });
@@ -303,6 +362,99 @@ pub fn method_desc(alloc: Global, text: &Units) -> Result<Desc, DescFault>
     ensures exact { (f : DescFault) → MethodFault text.now f → RefusesFor result f }
 {
     Ok(Desc::Method(method_of(alloc, text.as_slice())?))
+}
+
+/// Whether the type that the units are, all of them, is of floating point.
+#[tactic(auto, unfolding(crate::specs::DescriptorFlaws::read_field))]
+fn is_floating_field(units: &[u16]) -> Option<bool>
+    ensures { result ≡ option_map is_floating_type (read_field units.now) }
+{
+    match type_front(units) {
+        Some((read, [])) => Some(read.element.is_floating()),
+        _ => None,
+    }
+}
+
+/// Whether the type at the front of the units is of floating point, and the units behind it.
+fn floating_type(units: &[u16]) -> Option<(bool, &[u16])>
+    ensures { option_map (λ x. (x.0, x.1.now)) result ≡ option_map floating_one (read_type units.now) }
+{
+    let (read, rest) = type_front(units)?;
+    Some((read.element.is_floating(), rest))
+}
+
+/// Whether one of the parameters at the front of the units is of floating point, and what follows the `)` behind them.
+fn floating_parameters(units: &[u16]) -> Option<(bool, &[u16])>
+    ensures { option_map (λ x. (x.0, x.1.now)) result ≡ option_map floating_some (read_parameters (length units.now) units.now) }
+{
+    let mut floating = false;
+    let mut rest = units;
+    loop {
+        if let Some(after) = after(PARAMETERS_END, rest) {
+            return Some((floating, after));
+        }
+        let (parameter, after) = floating_type(rest)?;
+        floating |= parameter;
+        rest = after;
+    }
+}
+
+/// Whether the result that the units are, all of them, is of floating point.
+#[tactic(auto, unfolding(crate::specs::DescriptorFlaws::read_result))]
+fn is_floating_result(units: &[u16]) -> Option<bool>
+    ensures { result ≡ option_map floating_result (read_result units.now) }
+{
+    if units == [VOID].as_slice() {
+        Some(false)
+    } else {
+        is_floating_field(units)
+    }
+}
+
+/// Whether the method that the units are, all of them, has a type of floating point.
+#[tactic(auto, unfolding(crate::specs::DescriptorFlaws::read_method))]
+fn is_floating_method(units: &[u16]) -> Option<bool>
+    ensures { result ≡ option_map floating_method (read_method units.now) }
+{
+    let rest = after(PARAMETERS, units)?;
+    let (floating, rest) = floating_parameters(rest)?;
+    let result = is_floating_result(rest)?;
+    Some(floating || result)
+}
+
+/// The flaw of a text, by whether floating point is in it, where it is a descriptor.
+fn flaw_of(floating: Option<bool>) -> Option<DescFlaw>
+    ensures { result ≡ flaw_by floating }
+{
+    match floating {
+        None => Some(DescFlaw::Bad),
+        Some(true) => Some(DescFlaw::Floating),
+        Some(false) => None,
+    }
+}
+
+/// Why the text is no field descriptor of the profile (JVM specification 4.3.2), `None` where it is one: where
+/// `field_desc` reads it unless memory runs out. It takes no memory.
+pub fn field_flaw(text: &Units) -> Option<DescFlaw>
+    // It is computed from the text.
+    ensures value { result ≡ flaw_of_field text.now }
+
+    // It is what the grammar says.
+    ensures says { IsFieldAnswer text.now result }
+{
+    flaw_of(is_floating_field(text.as_slice()))
+}
+
+/// Why the text is no method descriptor of the profile (JVM specification 4.3.3), `None` where it is one: where
+/// `method_desc` reads it unless memory runs out. It takes no memory.
+pub fn method_flaw(text: &Units) -> Option<DescFlaw>
+    // It is computed from the text.
+    ensures value { result ≡ flaw_of_method text.now }
+
+    // It is what the grammar says.
+    ensures says { IsMethodAnswer text.now result }
+{
+    flaw_of(is_floating_method(text.as_slice()))
 }
 
 #[cfg(test)]

@@ -9,7 +9,9 @@ mod print;
 mod units;
 mod utf8;
 
-pub use descriptor::{Desc, DescFault, ElementType, FieldType, MethodType};
+pub use descriptor::{
+    Desc, DescFault, DescFlaw, ElementType, FieldType, MethodType, field_flaw, method_flaw,
+};
 pub use name::is_class_name;
 pub use number::decimal;
 pub use print::printed;
