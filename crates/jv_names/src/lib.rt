@@ -16,4 +16,4 @@ pub use name::is_class_name;
 pub use number::decimal;
 pub use print::printed;
 pub use units::Units;
-pub use utf8::{TextFault, units_of, utf8_of};
+pub use utf8::{TextFault, front_units, units_of, utf8_of};

@@ -79,10 +79,10 @@ fn unit_at(bytes: &[u8]) -> Option<(u16, &[u8])>
     }
 }
 
-/// The units at the front, and the rest, at whose front none stands.
+/// The units that bytes begin with in modified UTF-8 (JVM specification 4.4.7), and the rest, at whose front none stands.
 #[tactic(auto, using(crate::proofs::TextFronts::fewer))]
-fn front_units(alloc: Global, bytes: &[u8]) -> Result<(Vec<u16>, &[u8]), AllocError>
-    ensures { IfOk result (λ f. StopsAt bytes.now f.0.items f.1.now) }
+pub fn front_units(alloc: Global, bytes: &[u8]) -> Result<(Units, &[u8]), AllocError>
+    ensures { IfOk result (λ f. StopsAt bytes.now f.0 f.1.now) }
 {
     let mut units = Vec::with_capacity(alloc, bytes.len())?;
     let mut rest = bytes;
@@ -90,7 +90,7 @@ fn front_units(alloc: Global, bytes: &[u8]) -> Result<(Vec<u16>, &[u8]), AllocEr
         units.push(unit)?;
         rest = after;
     }
-    Ok((units, rest))
+    Ok((Units::new(units), rest))
 }
 
 /// The text that bytes spell in modified UTF-8 (JVM specification 4.4.7), as its UTF-16 units. A supplementary character is
@@ -111,7 +111,7 @@ pub fn units_of(alloc: Global, bytes: &[u8]) -> Result<Units, TextFault>
 {
     let (units, rest) = front_units(alloc, bytes)?;
     if rest.is_empty() {
-        Ok(Units::new(units))
+        Ok(units)
     } else {
         Err(TextFault::Bad(bytes.len() - rest.len()))
     }
