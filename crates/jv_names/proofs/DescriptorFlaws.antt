@@ -146,7 +146,7 @@ pub read_to_end : (text : Name) (floating : Bool) (rest after : Name) → AreRea
 read_to_end text floating rest after are ended =
     let whole : text ≡ flat_map type_text are.types ++ 41 ∷ after = are.spelled ∙ ap (λ (r : Name). flat_map type_text are.types ++ r) ended in
     let read : read_parameters (length text) text ≡ Some (are.types, after) =
-      subst (λ (s : Name). read_parameters (length s) s ≡ Some (are.types, after)) (sym whole) (read_parameters-text (length (flat_map type_text are.types ++ 41 ∷ after)) are.types after are.named (omega arith)) in
+    subst (λ (s : Name). read_parameters (length s) s ≡ Some (are.types, after)) (sym whole) (read_parameters-text (length (flat_map type_text are.types ++ 41 ∷ after)) are.types after are.named (omega arith)) in
     rw (read, are.is_any) refl
 
 pub read_no_end : (text : Name) (floating : Bool) (rest : Name) → AreRead text floating rest → None ≡ option_map floating_one (read_type rest) → ((after : Name) → rest ≢ 41 ∷ after) → floating_front text ≡ None

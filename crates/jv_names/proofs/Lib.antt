@@ -8,3 +8,4 @@ pub mod DescriptorTexts
 pub mod Descriptors
 pub mod DescriptorFlaws
 pub mod TextReading
+pub mod Examples

@@ -1,5 +1,5 @@
 -- What is computed of bytes is what modified UTF-8 says of them: each answer of TextReading has its case, and no other.
-use Rattle.std.proofs.Common.{◌≡◌, ℕ, ◌+◌, ◌-◌, ◌*◌, ◌/◌, ◌%◌, ◌^◌, ◌<◌, ◌≤◌, true, false, leb, List, [], ◌∷◌, ◌++◌, length, take, drop, Option, Some, None, lit≤, refl, sym, ap, subst, ◌∙◌, arith}
+use Rattle.std.proofs.Common.{◌≡◌, ℕ, ◌+◌, ◌/◌, ◌^◌, ◌<◌, ◌≤◌, true, false, leb, List, [], ◌∷◌, ◌++◌, length, take, drop, Option, Some, None, lit≤, refl, sym, ap, ◌∙◌, arith}
 use Rattle.std.specs.Str.{bytes_eq}
 use Rattle.std.proofs.Math.Seq.{take-append_seam, drop-append_seam}
 use Rattle.std.proofs.lemmas.Bool.Decides.{nat_tests}
@@ -8,7 +8,7 @@ use Rattle.std.proofs.lemmas.Option.{none-some, cond_some, option_and_then_some}
 use Rattle.std.proofs.lemmas.Slice.Eq.{bytes_eq-Decides}
 use Rattle.jv_names.specs.Utf8.{unit_bytes}
 use Rattle.jv_names.specs.TextReading.{unit_size, bits_of_unit, spelled_unit, first_size, unit_at, IsUnitAnswer}
-use Rattle.jv_names.proofs.UnitBytes.{two, three, each_unit}
+use Rattle.jv_names.proofs.UnitBytes.{each_unit}
 
 -- ---- the size
 

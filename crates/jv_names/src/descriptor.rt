@@ -510,6 +510,15 @@ mod tests {
         Ok(text)
     }
 
+    /// The flaw that goes with such an answer.
+    fn flaw_named(answer: &str) -> Option<DescFlaw> {
+        match answer {
+            "bad" => Some(DescFlaw::Bad),
+            "floating" => Some(DescFlaw::Floating),
+            _ => None,
+        }
+    }
+
     /// Types as `javac` writes them into class files and `javap` prints them, and texts that JVM specification 4.3.2 doesn't
     /// derive.
     #[test]
@@ -542,6 +551,7 @@ mod tests {
             let units = Units::from_ascii(alloc, text.as_bytes())?;
             let answer = in_java(alloc, &field_desc(alloc, &units))?;
             assert_eq!(rt; answer.as_slice(), wanted.as_bytes(), "at {text}");
+            assert_eq!(rt; field_flaw(&units), flaw_named(wanted), "at {text}");
         }
         Ok(())
     }
@@ -572,6 +582,7 @@ mod tests {
             let units = Units::from_ascii(alloc, text.as_bytes())?;
             let answer = in_java(alloc, &method_desc(alloc, &units))?;
             assert_eq!(rt; answer.as_slice(), wanted.as_bytes(), "at {text}");
+            assert_eq!(rt; method_flaw(&units), flaw_named(wanted), "at {text}");
         }
         Ok(())
     }

@@ -10,7 +10,8 @@ mod units;
 mod utf8;
 
 pub use descriptor::{
-    Desc, DescFault, DescFlaw, ElementType, FieldType, MethodType, field_flaw, method_flaw,
+    Desc, DescFault, DescFlaw, ElementType, FieldType, MethodType, field_desc, field_flaw,
+    method_desc, method_flaw,
 };
 pub use name::is_class_name;
 pub use number::decimal;

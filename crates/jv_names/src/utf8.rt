@@ -178,7 +178,7 @@ mod tests {
 
     /// Bytes that JVM specification 4.4.7 gives no text, and where.
     #[test]
-    fn refuses_bad_bytes(rt: HostRuntime) {
+    fn refuses_bad_bytes(rt: HostRuntime) -> Result<(), AllocError> {
         let alloc = rt.alloc();
         let cases: [(&[u8], usize); 12] = [
             (&[0], 0),
@@ -200,6 +200,11 @@ mod tests {
                 matches!(read, Err(TextFault::Bad(at)) if at == offset),
                 "at {bytes:?}"
             );
+            let (front, rest) = front_units(alloc, bytes)?;
+            let text = utf8_of(alloc, &front)?;
+            assert_eq!(rt; Some(text.as_slice()), bytes.get(..offset));
+            assert_eq!(rt; Some(rest), bytes.get(offset..));
         }
+        Ok(())
     }
 }
