@@ -1,28 +1,37 @@
 -- Where a fault stands at the front, reading answers that fault.
-use Rattle.std.proofs.Common.{◌≡◌, inl, inr, ℕ, zero, suc, ◌+◌, ◌*◌, ◌<◌, true, false, ltb, ℤ, pos, negsuc, List, [], ◌∷◌, ◌++◌, length, Option, Some, None, Err, refl, ap, ◌∙◌, append_assoc, arith}
+use Rattle.std.proofs.Common.{◌≡◌, inl, inr, ℕ, zero, suc, ◌+◌, ◌*◌, ◌<◌, true, false, ltb, ℤ, pos, negsuc, List, [], ◌∷◌, ◌++◌, length, Option, Some, None, Err, refl, ap, ◌∙◌, append_assoc, arith, eqb}
+use Rattle.std.specs.Prelude.{◌⊎◌, find}
 use Rattle.std.specs.List.{flat_map, AllByRecursion}
-use Rattle.std.proofs.lemmas.Bool.{lt-ltb, le-ltb, ne_eqb}
+use Rattle.std.proofs.lemmas.Bool.{lt-ltb, ne_eqb}
 use Rattle.class_code.specs.declared.fault.InstrFault.{InstrFault}
 use Rattle.class_code.specs.declared.fault.InstrFault.TheVariants as instr_fault
 use Rattle.class_code.specs.declared.form.Form.{Form}
 use Rattle.class_code.specs.declared.form.Form.TheVariants as form
 use Rattle.class_code.specs.declared.instr.Padding.{Padding}
+use Rattle.class_code.specs.Codes.{primitive_code}
 use Rattle.class_code.specs.Spelling.{padding_len, pair_bytes, Rises}
 use Rattle.class_code.specs.Ranges.{PairFits}
 use Rattle.class_code.specs.Faults.{IsNotAbove, last_key, PrimitiveFault, NewArrayFault, InterfaceFault, WidenedFault, WideFault, TableRestFault, TableFault, PairFault, LookupRestFault, LookupFault, FormFault, HeadFault}
+use Rattle.class_code.specs.OperandReading.{primitives, primitive_at, above, take_pair, take_pairs}
+use Rattle.class_code.specs.CodeReading.{read_widened, read_wide, table_rest, read_table, lookup_rest, read_lookup, read_form, instr_at}
 use Rattle.class_code.proofs.FormAt.{form_is}
 use Rattle.class_code.proofs.Numbers.{lt_true, le_false, count_is}
 use Rattle.class_code.proofs.Take.{s4_again, u1_cut, s1_cut, u2_cut, s2_cut, s4_cut}
-use Rattle.class_code.proofs.ReadBack.{primitive_at, read_widened, read_wide, table_rest, read_table, above, above_true, take_pair, take_pairs, pair_again, lookup_rest, read_lookup, read_form, read_at, table_head_again, lookup_head_again}
+use Rattle.class_code.proofs.ReadBack.{above_true, pair_again, table_head_again, lookup_head_again}
 
 abbrev pub IsBytes : List ℕ → Type 0
 IsBytes bytes = AllByRecursion (λ b. b < 256) bytes
 
+-- no code of a primitive type
+not_primitive : (b : ℕ) → (b < 4) ⊎ (11 < b) → find (λ p. eqb (primitive_code p) b) primitives ≡ None
+not_primitive b (inl lt) = rw (ne_eqb 4 b (λ e. omega (arith, e, lt)), ne_eqb 5 b (λ e. omega (arith, e, lt)), ne_eqb 8 b (λ e. omega (arith, e, lt)), ne_eqb 9 b (λ e. omega (arith, e, lt)), ne_eqb 10 b (λ e. omega (arith, e, lt)), ne_eqb 11 b (λ e. omega (arith, e, lt))) refl
+not_primitive b (inr lt) = rw (ne_eqb 4 b (λ e. omega (arith, e, lt)), ne_eqb 5 b (λ e. omega (arith, e, lt)), ne_eqb 8 b (λ e. omega (arith, e, lt)), ne_eqb 9 b (λ e. omega (arith, e, lt)), ne_eqb 10 b (λ e. omega (arith, e, lt)), ne_eqb 11 b (λ e. omega (arith, e, lt))) refl
+
 primitive_fault : (b : ℕ) (w : InstrFault) → PrimitiveFault b w → primitive_at b ≡ Err w
 primitive_fault b instr_fault.Floating (inl e) = rw e refl
 primitive_fault b instr_fault.Floating (inr e) = rw e refl
-primitive_fault b instr_fault.BadOperand (inl lt) = rw (lt-ltb b 4 lt) refl
-primitive_fault b instr_fault.BadOperand (inr lt) = let small : ltb b 4 ≡ false = le-ltb b 4 (omega arith) in rw (small, lt-ltb 11 b lt) refl
+primitive_fault b instr_fault.BadOperand (inl lt) = rw (ne_eqb b 6 (λ e. omega (arith, e, lt)), ne_eqb b 7 (λ e. omega (arith, e, lt)), not_primitive b (inl lt)) refl
+primitive_fault b instr_fault.BadOperand (inr lt) = rw (ne_eqb b 6 (λ e. omega (arith, e, lt)), ne_eqb b 7 (λ e. omega (arith, e, lt)), not_primitive b (inr lt)) refl
 primitive_fault b instr_fault.Unsupported f = absurd f
 primitive_fault b instr_fault.Truncated f = absurd f
 
@@ -128,6 +137,6 @@ form_fault at form.Wide bytes w fits e = wide_fault bytes w fits e
 form_fault at form.Floating bytes w fits e = rw e refl
 form_fault at form.Unsupported bytes w fits e = rw e refl
 
-pub fault_again : (at : ℕ) (bytes : List ℕ) (w : InstrFault) → IsBytes bytes → HeadFault at bytes w → read_at at bytes ≡ Err w
+pub fault_again : (at : ℕ) (bytes : List ℕ) (w : InstrFault) → IsBytes bytes → HeadFault at bytes w → instr_at at bytes ≡ Err w
 fault_again at [] w fits e = absurd e
 fault_again at (b ∷ bytes) w fits (f, is, e) = rw (form_is b f fits.0 is) (form_fault at f bytes w fits.1 e)

@@ -1,5 +1,5 @@
--- The one form of each opcode.
-use Rattle.std.proofs.Common.{zero, suc, inl, inr, arith, ◌≡◌, ℕ, ◌+◌, ◌*◌, ◌<◌, Bool, true, false, cond, eqb, List, [], ◌∷◌, refl}
+-- The one form of each opcode: the search finds it.
+use Rattle.std.proofs.Common.{zero, suc, inl, inr, arith, ◌≡◌, ℕ, ◌+◌, ◌*◌, ◌<◌, Bool, true, false, cond, eqb, List, [], ◌∷◌, refl, sym, subst}
 use Rattle.class_code.specs.declared.form.Form.{Form}
 use Rattle.class_code.specs.declared.form.Form.TheVariants as form
 use Rattle.class_code.specs.declared.instr.Simple.{Simple}
@@ -22,97 +22,17 @@ use Rattle.class_code.specs.declared.instr.Width.{Width}
 use Rattle.class_code.specs.declared.instr.Width.TheVariants as width
 use Rattle.class_code.specs.declared.instr.Conversion.{Conversion}
 use Rattle.class_code.specs.declared.instr.Conversion.TheVariants as conversion
-use Rattle.class_code.specs.declared.instr.Condition.{Condition}
 use Rattle.class_code.specs.declared.instr.Condition.TheVariants as condition
 use Rattle.class_code.specs.declared.instr.Branch.{Branch}
 use Rattle.class_code.specs.declared.instr.Branch.TheVariants as branch
 use Rattle.class_code.specs.declared.instr.PoolOp.{PoolOp}
 use Rattle.class_code.specs.declared.instr.PoolOp.TheVariants as pool_op
-use Rattle.std.specs.Prelude.{not, ◌&&◌, IsTrue, map, ◌++◌}
-use Rattle.std.specs.List.{list_all, flat_map}
-use Rattle.std.proofs.lemmas.Bool.{cases_lt}
+use Rattle.std.specs.Prelude.{not, ◌&&◌, ◌||◌, IsTrue, find, is_some, unwrap_or, Option, Some, None}
+use Rattle.std.specs.List.{list_all}
+use Rattle.std.proofs.lemmas.Bool.{cases_lt, eqb-true}
 use Rattle.class_code.specs.Codes.{kind_place, width_place, slot_place, element_place, int_const_code, long_const_code, stack_code, arithmetic_code, conversion_code, branch_code, pool_code, simple_code}
 use Rattle.class_code.specs.Forms.{is_floating, is_unsupported, IsForm}
-
--- ---- all forms that an opcode of their own begins
-
-abbrev kinds : List Kind
-kinds = kind.Int ∷ kind.Long ∷ kind.Reference ∷ []
-
-abbrev widths : List Width
-widths = width.Int ∷ width.Long ∷ []
-
-abbrev slots : List Slot
-slots = slot.Zero ∷ slot.One ∷ slot.Two ∷ slot.Three ∷ []
-
-abbrev elements : List Element
-elements = element.Int ∷ element.Long ∷ element.Reference ∷ element.Byte ∷ element.Char ∷ element.Short ∷ []
-
-abbrev int_consts : List IntConst
-int_consts = int_const.MinusOne ∷ int_const.Zero ∷ int_const.One ∷ int_const.Two ∷ int_const.Three ∷ int_const.Four ∷ int_const.Five ∷ []
-
-abbrev long_consts : List LongConst
-long_consts = long_const.Zero ∷ long_const.One ∷ []
-
-abbrev stack_ops : List StackOp
-stack_ops = stack_op.Pop ∷ stack_op.Pop2 ∷ stack_op.Dup ∷ stack_op.DupX1 ∷ stack_op.DupX2 ∷ stack_op.Dup2 ∷ stack_op.Dup2X1 ∷ stack_op.Dup2X2 ∷ stack_op.Swap ∷ []
-
-abbrev operations : List Arithmetic
-operations = arithmetic.Add ∷ arithmetic.Sub ∷ arithmetic.Mul ∷ arithmetic.Div ∷ arithmetic.Rem ∷ arithmetic.Neg ∷ arithmetic.Shl ∷ arithmetic.Shr ∷ arithmetic.Ushr ∷ arithmetic.And ∷ arithmetic.Or ∷ arithmetic.Xor ∷ []
-
-abbrev conversions : List Conversion
-conversions = conversion.IntToLong ∷ conversion.LongToInt ∷ conversion.IntToByte ∷ conversion.IntToChar ∷ conversion.IntToShort ∷ []
-
-abbrev conditions : List Condition
-conditions = condition.Eq ∷ condition.Ne ∷ condition.Lt ∷ condition.Ge ∷ condition.Gt ∷ condition.Le ∷ []
-
-abbrev pool_ops : List PoolOp
-pool_ops = pool_op.LoadConstWide ∷ pool_op.LoadLongConst ∷ pool_op.GetStatic ∷ pool_op.PutStatic ∷ pool_op.GetField ∷ pool_op.PutField ∷ pool_op.InvokeVirtual ∷ pool_op.InvokeSpecial ∷ pool_op.InvokeStatic ∷ pool_op.New ∷ pool_op.NewReferenceArray ∷ pool_op.CheckCast ∷ pool_op.InstanceOf ∷ []
-
-abbrev branches : List Branch
-branches = branch.IfSameReference ∷ branch.IfOtherReference ∷ branch.Goto ∷ branch.IfNull ∷ branch.IfNonNull ∷ map (λ c. branch.If c) conditions ++ map (λ c. branch.IfIntCompare c) conditions
-
-abbrev simples : List Simple
-simples =
-    simple.Nop ∷ simple.ConstNull ∷ simple.CompareLongs ∷ simple.ReturnVoid ∷ simple.ArrayLength ∷ simple.Throw ∷ simple.MonitorEnter ∷ simple.MonitorExit ∷ []
-    ++ map (λ n. simple.ConstInt n) int_consts ++ map (λ n. simple.ConstLong n) long_consts
-    ++ flat_map (λ k. map (λ s. simple.Load k s) slots) kinds ++ flat_map (λ k. map (λ s. simple.Store k s) slots) kinds
-    ++ map (λ e. simple.ArrayLoad e) elements ++ map (λ e. simple.ArrayStore e) elements ++ map (λ o. simple.Stack o) stack_ops
-    ++ flat_map (λ o. map (λ w. simple.Arithmetic o w) widths) operations ++ map (λ c. simple.Convert c) conversions ++ map (λ k. simple.Return k) kinds
-
-abbrev forms : List Form
-forms =
-    form.PushByte ∷ form.PushShort ∷ form.LoadConst ∷ form.Increment ∷ form.GotoWide ∷ form.TableSwitch ∷ form.LookupSwitch ∷ form.InvokeInterface ∷ form.NewArray
-    ∷ form.MultiNewArray ∷ form.Wide ∷ [] ++ map (λ k. form.Load k) kinds ++ map (λ k. form.Store k) kinds ++ map (λ c. form.Branch c) branches ++ map (λ o. form.Pool o) pool_ops
-    ++ map (λ s. form.Simple s) simples
-
--- that opcode, and for the other forms no byte
-abbrev code_of : Form → ℕ
-code_of (form.Simple s) = simple_code s
-code_of form.PushByte = 0x10
-code_of form.PushShort = 0x11
-code_of form.LoadConst = 0x12
-code_of (form.Load k) = 0x15 + kind_place k
-code_of (form.Store k) = 0x36 + kind_place k
-code_of form.Increment = 0x84
-code_of (form.Branch c) = branch_code c
-code_of form.GotoWide = 0xc8
-code_of form.TableSwitch = 0xaa
-code_of form.LookupSwitch = 0xab
-code_of (form.Pool o) = pool_code o
-code_of form.InvokeInterface = 0xb9
-code_of form.NewArray = 0xbc
-code_of form.MultiNewArray = 0xc5
-code_of form.Wide = 0xc4
-code_of form.Floating = 256
-code_of form.Unsupported = 256
-
-abbrev form_in : List Form → ℕ → Form
-form_in [] b = form.Unsupported
-form_in (f ∷ fs) b = cond (eqb b (code_of f)) f (form_in fs b)
-
-pub form_at : ℕ → Form
-form_at b = cond (is_unsupported b) form.Unsupported (cond (is_floating b) form.Floating (form_in forms b))
+use Rattle.class_code.specs.FormSearch.{forms, form_code, form_at}
 
 -- ---- the opcode of each of them begins that form; a last case stands for all that are left
 
@@ -257,3 +177,55 @@ form_is b form.Floating lt e =
     let other : is_unsupported b ≡ false = not_both (is_floating b) (is_unsupported b) (at_each apart 256 b all_apart lt) e in
     rw (other, e) refl
 form_is b form.Unsupported lt e = rw e refl
+
+-- ---- each byte has the form that the table gives it
+
+-- the opcode of a form begins it
+of_code : (b : ℕ) (f : Form) → b < 256 → form_code f ≡ b → IsForm b f
+of_code b (form.Simple s) lt e = sym e
+of_code b form.PushByte lt e = sym e
+of_code b form.PushShort lt e = sym e
+of_code b form.LoadConst lt e = sym e
+of_code b (form.Load k) lt e = sym e
+of_code b (form.Store k) lt e = sym e
+of_code b form.Increment lt e = sym e
+of_code b (form.Branch c) lt e = sym e
+of_code b form.GotoWide lt e = sym e
+of_code b form.TableSwitch lt e = sym e
+of_code b form.LookupSwitch lt e = sym e
+of_code b (form.Pool o) lt e = sym e
+of_code b form.InvokeInterface lt e = sym e
+of_code b form.NewArray lt e = sym e
+of_code b form.MultiNewArray lt e = sym e
+of_code b form.Wide lt e = sym e
+of_code b form.Floating lt e = absurd (omega (arith, e))
+of_code b form.Unsupported lt e = absurd (omega (arith, e))
+
+-- what a search finds passes its test
+at_first : {X : Type 0} (test : X → Bool) (x y : X) (others : Option X) (t : Bool) → test y ≡ t → (others ≡ Some x → test x ≡ true) → cond t (Some y) others ≡ Some x → test x ≡ true
+at_first test x y others true h more e = let same : y ≡ x = cc in subst (λ z. test z ≡ true) same h
+at_first test x y others false h more e = more e
+
+found_passes : {X : Type 0} (test : X → Bool) (xs : List X) (x : X) → find test xs ≡ Some x → test x ≡ true
+found_passes test [] x e = absurd cc
+found_passes test (y ∷ ys) x e = at_first test x y (find test ys) (test y) refl (found_passes test ys x) e
+
+-- every byte is unsupported, floating or the opcode of one of all forms: a test of all bytes
+abbrev is_known : ℕ → Bool
+is_known b = is_unsupported b || (is_floating b || is_some (find (λ f. eqb (form_code f) b) forms))
+
+all_known : list_all is_known (upto 256) ≡ true
+all_known = refl
+
+chosen : (b : ℕ) (u f : Bool) (o : Option Form) → b < 256 → is_unsupported b ≡ u → is_floating b ≡ f → find (λ g. eqb (form_code g) b) forms ≡ o
+    → IsForm b (cond u form.Unsupported (cond f form.Floating (unwrap_or o form.Unsupported)))
+chosen b true f o lt eu ef eo = eu
+chosen b false true o lt eu ef eo = ef
+chosen b false false (Some g) lt eu ef eo = of_code b g lt (eqb-true (form_code g) b (found_passes (λ f. eqb (form_code f) b) forms g eo))
+chosen b false false None lt eu ef eo =
+    let known : is_unsupported b || (is_floating b || is_some (find (λ f. eqb (form_code f) b) forms)) ≡ true = at_each is_known 256 b all_known lt in
+    let none : false ≡ true = rw (eu, ef, eo) at known in absurd cc
+
+pub form_found : (b : ℕ) → b < 256 → IsForm b (form_at b)
+unfolding form_at
+form_found b lt = chosen b (is_unsupported b) (is_floating b) (find (λ g. eqb (form_code g) b) forms) lt refl refl refl

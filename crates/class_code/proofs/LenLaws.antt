@@ -12,9 +12,10 @@ use Rattle.class_code.specs.Ranges.{Fits}
 use Rattle.class_code.specs.Listing.{IsInstrAt}
 use Rattle.class_code.specs.Faults.{IsCount, IsTableHead, IsLookupHead, HeadFault}
 use Rattle.class_code.specs.Skips.{SkipsWords, SkipsPairs, SkipsTable, SkipsLookup}
-use Rattle.class_code.proofs.Take.{Read}
+use Rattle.class_code.specs.OperandReading.{Read}
+use Rattle.class_code.specs.CodeReading.{instr_at}
 use Rattle.class_code.proofs.Loops.{table_parts}
-use Rattle.class_code.proofs.ReadBack.{read_at, read_again}
+use Rattle.class_code.proofs.ReadBack.{read_again}
 use Rattle.class_code.proofs.FaultBack.{IsBytes, fault_again}
 
 -- an instruction that may stand in code takes a byte or more
@@ -59,7 +60,7 @@ clash x w e = cc
 -- where a fault stands, no instruction does
 pub not_both : (at n : ℕ) (bytes : List ℕ) (w : InstrFault) → IsBytes bytes → HeadFault at bytes w → IsInstrAt at bytes n → ⊥
 not_both at n bytes w fits e i =
-    let whole : read_at at bytes ≡ done (i.instr, i.rest) = ap (read_at at) i.parts ∙ read_again at i.instr i.rest i.fits i.stands in
+    let whole : instr_at at bytes ≡ done (i.instr, i.rest) = ap (instr_at at) i.parts ∙ read_again at i.instr i.rest i.fits i.stands in
     clash (i.instr, i.rest) w (sym whole ∙ fault_again at bytes w fits e)
 
 lookup_parts : (p d c k o bytes rest after : List ℕ) → bytes ≡ p ++ (d ++ (c ++ rest)) → c ≡ k → rest ≡ o ++ after → bytes ≡ (p ++ (d ++ (k ++ o))) ++ after

@@ -11,8 +11,9 @@ use Rattle.class_code.specs.Spelling.{spelling}
 use Rattle.class_code.specs.Listing.{spelled, InPlace, IsSpelled, IsListing, astray}
 use Rattle.class_code.specs.Faults.{HeadFault}
 use Rattle.class_code.specs.FirstFaults.{StopsAt, FirstFault, placed, Gives, Refuses, IfFault}
-use Rattle.class_code.proofs.Take.{Read}
-use Rattle.class_code.proofs.ReadBack.{read_at, read_again}
+use Rattle.class_code.specs.OperandReading.{Read}
+use Rattle.class_code.specs.CodeReading.{instr_at}
+use Rattle.class_code.proofs.ReadBack.{read_again}
 use Rattle.class_code.proofs.FaultBack.{IsBytes, fault_again}
 
 abbrev pub Pairs : Type 0
@@ -25,9 +26,9 @@ abbrev failed : InstrFault → Read Instr
 failed w = Err w
 
 -- what is read at the front of some spelled instructions
-first_read : (at : ℕ) (p : ℕ × Instr) (ps : Pairs) (rest : List ℕ) → InPlace at (p ∷ ps) → read_at at (spelled (p ∷ ps) ++ rest) ≡ done (p.1, spelled ps ++ rest)
+first_read : (at : ℕ) (p : ℕ × Instr) (ps : Pairs) (rest : List ℕ) → InPlace at (p ∷ ps) → instr_at at (spelled (p ∷ ps) ++ rest) ≡ done (p.1, spelled ps ++ rest)
 first_read at p ps rest place =
-    ap (read_at at) (append_assoc (spelling p.1) (spelled ps) rest) ∙ read_again at p.1 (spelled ps ++ rest) place.1 place.2
+    ap (instr_at at) (append_assoc (spelling p.1) (spelled ps) rest) ∙ read_again at p.1 (spelled ps ++ rest) place.1 place.2
 
 ok_is : (x y : Instr × List ℕ) → done x ≡ done y → x ≡ y
 ok_is x y e = cc
@@ -44,8 +45,8 @@ bytes_after (x ∷ xs) ys fits = bytes_after xs ys fits.1
 abbrev Ends : ℕ → List ℕ → Type 0
 Ends at rest = (rest ≡ []) ⊎ ((w : InstrFault) × HeadFault at rest w)
 
-ends_read : (at : ℕ) (rest : List ℕ) (x : Instr × List ℕ) → IsBytes rest → Ends at rest → read_at at rest ≡ done x → ⊥
-ends_read at rest x fits (inl e) read = let none : read_at at rest ≡ failed instr_fault.Truncated = rw e refl in let clash : done x ≡ failed instr_fault.Truncated = sym read ∙ none in cc
+ends_read : (at : ℕ) (rest : List ℕ) (x : Instr × List ℕ) → IsBytes rest → Ends at rest → instr_at at rest ≡ done x → ⊥
+ends_read at rest x fits (inl e) read = let none : instr_at at rest ≡ failed instr_fault.Truncated = rw e refl in let clash : done x ≡ failed instr_fault.Truncated = sym read ∙ none in cc
 ends_read at rest x fits (inr (w, e)) read = let clash : done x ≡ failed w = sym read ∙ fault_again at rest w fits e in cc
 
 pair_is : (p q : ℕ × Instr) → p.0 ≡ q.0 → p.1 ≡ q.1 → p ≡ q
@@ -55,11 +56,11 @@ pub same_front : (at : ℕ) (ps qs : Pairs) (r s : List ℕ) → IsBytes (spelle
     → spelled ps ++ r ≡ spelled qs ++ s → (ps ≡ qs) × (r ≡ s)
 same_front at [] [] r s fits pp qq pe qe e = (refl, e)
 same_front at [] (q ∷ qs) r s fits pp qq pe qe e =
-    absurd (ends_read at r (q.1, spelled qs ++ s) fits (subst (λ (o : ℕ). Ends o r) (omega arith) pe) (ap (read_at at) e ∙ first_read at q qs s qq))
+    absurd (ends_read at r (q.1, spelled qs ++ s) fits (subst (λ (o : ℕ). Ends o r) (omega arith) pe) (ap (instr_at at) e ∙ first_read at q qs s qq))
 same_front at (p ∷ ps) [] r s fits pp qq pe qe e =
-    absurd (ends_read at s (p.1, spelled ps ++ r) (subst IsBytes e fits) (subst (λ (o : ℕ). Ends o s) (omega arith) qe) (ap (read_at at) (sym e) ∙ first_read at p ps r pp))
+    absurd (ends_read at s (p.1, spelled ps ++ r) (subst IsBytes e fits) (subst (λ (o : ℕ). Ends o s) (omega arith) qe) (ap (instr_at at) (sym e) ∙ first_read at p ps r pp))
 same_front at (p ∷ ps) (q ∷ qs) r s fits pp qq pe qe e =
-    let both : done (p.1, spelled ps ++ r) ≡ done (q.1, spelled qs ++ s) = sym (first_read at p ps r pp) ∙ ap (read_at at) e ∙ first_read at q qs s qq in
+    let both : done (p.1, spelled ps ++ r) ≡ done (q.1, spelled qs ++ s) = sym (first_read at p ps r pp) ∙ ap (instr_at at) e ∙ first_read at q qs s qq in
     let parts = ok_is (p.1, spelled ps ++ r) (q.1, spelled qs ++ s) both in
     let same : p.1 ≡ q.1 = ap (λ (x : Instr × List ℕ). x.0) parts in
     let after : spelled ps ++ r ≡ spelled qs ++ s = ap (λ (x : Instr × List ℕ). x.1) parts in
@@ -96,9 +97,9 @@ one_stop code w v at o fits f g =
     let both = same_front 0 f.front g.front f.rest g.rest (subst IsBytes f.parts fits) f.in_place g.in_place (stop_ends code w at f) (stop_ends code v o g) (sym f.parts ∙ g.parts) in
     let place : at ≡ o = f.place ∙ ap (λ (x : Pairs). length (spelled x)) both.0 ∙ sym g.place in
     let bytes : IsBytes f.rest = bytes_after (spelled f.front) f.rest (subst IsBytes f.parts fits) in
-    let left : read_at at f.rest ≡ failed w = fault_again at f.rest w bytes f.fault in
-    let right : read_at o g.rest ≡ failed v = fault_again o g.rest v (subst IsBytes both.1 bytes) g.fault in
-    (err_is w v (sym left ∙ ap (read_at at) both.1 ∙ ap (λ (x : ℕ). read_at x g.rest) place ∙ right), place)
+    let left : instr_at at f.rest ≡ failed w = fault_again at f.rest w bytes f.fault in
+    let right : instr_at o g.rest ≡ failed v = fault_again o g.rest v (subst IsBytes both.1 bytes) g.fault in
+    (err_is w v (sym left ∙ ap (instr_at at) both.1 ∙ ap (λ (x : ℕ). instr_at x g.rest) place ∙ right), place)
 
 -- not both a list and a fault
 pub list_or_fault : (code : List ℕ) (ps : Pairs) (f : CodeFault) → IsBytes code → IsListing code ps → FirstFault code f → ⊥

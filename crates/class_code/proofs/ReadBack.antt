@@ -1,12 +1,8 @@
--- The instruction that bytes begin with, by one function of them: what was spelled is read again.
-use Rattle.std.proofs.Common.{◌≡◌, ℕ, zero, suc, ◌+◌, ◌*◌, Bool, true, false, cond, eqb, ltb, ℤ, pos, negsuc, ◌+ℤ◌, ◌-ℤ◌, List, [], ◌∷◌, ◌++◌, length, Option, Some, None, Result, Ok, Err, refl, ap, ◌∙◌, append_assoc, arith, length-append, lit<}
-use Rattle.std.specs.Prelude.{int_lt}
+-- What is spelled at the front is the instruction that is read there.
+use Rattle.std.proofs.Common.{◌≡◌, ℕ, suc, ◌+◌, ◌*◌, true, false, cond, eqb, ltb, ℤ, pos, List, [], ◌∷◌, ◌++◌, length, Option, Some, None, Ok, Err, refl, ap, ◌∙◌, append_assoc, arith, length-append, lit<}
 use Rattle.std.specs.List.{flat_map, AllByRecursion}
-use Rattle.std.proofs.Math.IntN.{nat_abs}
 use Rattle.std.proofs.lemmas.Bool.{le-ltb}
-use Rattle.class_code.specs.declared.fault.InstrFault.{InstrFault}
 use Rattle.class_code.specs.declared.fault.InstrFault.TheVariants as instr_fault
-use Rattle.class_code.specs.declared.form.Form.{Form}
 use Rattle.class_code.specs.declared.form.Form.TheVariants as form
 use Rattle.class_code.specs.declared.instr.Padding.{Padding}
 use Rattle.class_code.specs.declared.instr.Primitive.{Primitive}
@@ -20,15 +16,10 @@ use Rattle.class_code.specs.Spelling.{s2, s4, padding_bytes, padding_len, pair_b
 use Rattle.class_code.specs.Ranges.{PairFits, TableFits, LookupFits, Fits}
 use Rattle.class_code.specs.Faults.{IsTableHead, IsLookupHead}
 use Rattle.class_code.proofs.Numbers.{lt_true, le_false, count_is, short_fits}
-use Rattle.class_code.proofs.FormAt.{form_at, simple_again, branch_again, pool_again, load_again, store_again, form_is}
-use Rattle.class_code.proofs.Take.{◌>>=◌, Read, take_u1, take_s1, take_u2, take_s2, take_s4, s1_again, u2_again, s2_again, s4_again, take_padding, padding_again, take_words, words_again}
-
-abbrev pub primitive_at : ℕ → Result Primitive InstrFault
-primitive_at b =
-    cond (ltb b 4) (Err instr_fault.BadOperand) (cond (ltb 11 b) (Err instr_fault.BadOperand)
-    (cond (eqb b 6) (Err instr_fault.Floating) (cond (eqb b 7) (Err instr_fault.Floating)
-    (cond (eqb b 4) (Ok primitive.Boolean) (cond (eqb b 5) (Ok primitive.Char) (cond (eqb b 8) (Ok primitive.Byte)
-    (cond (eqb b 9) (Ok primitive.Short) (cond (eqb b 10) (Ok primitive.Int) (Ok primitive.Long)))))))))
+use Rattle.class_code.specs.OperandReading.{◌>>=◌, Read, take_u1, take_s2, primitive_at, above, take_pair, take_pairs}
+use Rattle.class_code.specs.CodeReading.{count_of, table_rest, read_table, lookup_rest, read_lookup, instr_at}
+use Rattle.class_code.proofs.FormAt.{simple_again, branch_again, pool_again, load_again, store_again, form_is}
+use Rattle.class_code.proofs.Take.{s1_again, u2_again, s2_again, s4_again, padding_again, words_again}
 
 primitive_again : (p : Primitive) → primitive_at (primitive_code p) ≡ Ok p
 primitive_again primitive.Boolean = refl
@@ -37,80 +28,6 @@ primitive_again primitive.Byte = refl
 primitive_again primitive.Short = refl
 primitive_again primitive.Int = refl
 primitive_again primitive.Long = refl
-
-abbrev pub read_widened : ℕ → Form → List ℕ → Read Instr
-read_widened b (form.Load k) bytes = take_u2 bytes >>= λ n. Ok (instr.LoadWide k n.0, n.1)
-read_widened b (form.Store k) bytes = take_u2 bytes >>= λ n. Ok (instr.StoreWide k n.0, n.1)
-read_widened b form.Increment bytes = take_u2 bytes >>= λ n. take_s2 n.1 >>= λ by. Ok (instr.IncrementWide n.0 by.0, by.1)
-read_widened b form.Floating bytes = Err instr_fault.Floating
-read_widened b form.Unsupported bytes = cond (eqb b 0xa9) (Err instr_fault.Unsupported) (Err instr_fault.BadOperand)
-read_widened b f bytes = Err instr_fault.BadOperand
-
-abbrev pub read_wide : List ℕ → Read Instr
-read_wide [] = Err instr_fault.Truncated
-read_wide (b ∷ bytes) = read_widened b (form_at b) bytes
-
--- ---- a table
-
--- high minus low plus 1
-abbrev pub count_of : ℤ → ℤ → ℕ
-count_of low high = nat_abs ((high +ℤ pos 1) -ℤ low)
-
-abbrev pub table_rest : Padding → ℤ → ℤ → ℤ → List ℕ → Read Instr
-table_rest p d l h bytes =
-    cond (int_lt h l) (Err instr_fault.BadOperand) (cond (ltb (length bytes) (4 * count_of l h)) (Err instr_fault.Truncated)
-    (take_words (count_of l h) bytes >>= λ os. Ok (instr.TableSwitch (record { padding = p; default = d; low = l; high = h; offsets = os.0 }), os.1)))
-
-abbrev pub read_table : ℕ → List ℕ → Read Instr
-read_table at bytes = cond (ltb (length bytes) (padding_len at + 12)) (Err instr_fault.Truncated)
-    (take_padding (padding_len at) bytes >>= λ p. take_s4 p.1 >>= λ d. take_s4 d.1 >>= λ l. take_s4 l.1 >>= λ h. table_rest p.0 d.0 l.0 h.0 h.1)
-
--- ---- a look-up
-
-abbrev pub above : Option ℤ → ℤ → Bool
-above None key = true
-above (Some last) key = int_lt last key
-
-abbrev pub take_pair : Option ℤ → List ℕ → Read (ℤ × ℤ)
-take_pair last bytes = take_s4 bytes >>= λ k. cond (above last k.0) (take_s4 k.1 >>= λ o. Ok ((k.0, o.0), o.1)) (Err instr_fault.BadOperand)
-
-abbrev pub take_pairs : ℕ → Option ℤ → List ℕ → Read (List (ℤ × ℤ))
-take_pairs zero last bytes = Ok ([], bytes)
-take_pairs (suc n) last bytes = take_pair last bytes >>= λ p. take_pairs n (Some p.0.0) p.1 >>= λ others. Ok (p.0 ∷ others.0, others.1)
-
-abbrev pub lookup_rest : Padding → ℤ → ℤ → List ℕ → Read Instr
-lookup_rest p d (negsuc n) bytes = Err instr_fault.BadOperand
-lookup_rest p d (pos n) bytes = take_pairs n None bytes >>= λ ps. Ok (instr.LookupSwitch (record { padding = p; default = d; pairs = ps.0 }), ps.1)
-
-abbrev pub read_lookup : ℕ → List ℕ → Read Instr
-read_lookup at bytes = cond (ltb (length bytes) (padding_len at + 8)) (Err instr_fault.Truncated)
-    (take_padding (padding_len at) bytes >>= λ p. take_s4 p.1 >>= λ d. take_s4 d.1 >>= λ c. lookup_rest p.0 d.0 c.0 c.1)
-
--- ---- an instruction
-
-abbrev pub read_form : ℕ → Form → List ℕ → Read Instr
-read_form at (form.Simple s) bytes = Ok (instr.Simple s, bytes)
-read_form at form.PushByte bytes = take_s1 bytes >>= λ n. Ok (instr.PushByte n.0, n.1)
-read_form at form.PushShort bytes = take_s2 bytes >>= λ n. Ok (instr.PushShort n.0, n.1)
-read_form at form.LoadConst bytes = take_u1 bytes >>= λ n. Ok (instr.LoadConst n.0, n.1)
-read_form at (form.Load k) bytes = take_u1 bytes >>= λ n. Ok (instr.Load k n.0, n.1)
-read_form at (form.Store k) bytes = take_u1 bytes >>= λ n. Ok (instr.Store k n.0, n.1)
-read_form at form.Increment bytes = take_u1 bytes >>= λ n. take_s1 n.1 >>= λ by. Ok (instr.Increment n.0 by.0, by.1)
-read_form at (form.Branch c) bytes = take_s2 bytes >>= λ n. Ok (instr.Branch c n.0, n.1)
-read_form at form.GotoWide bytes = take_s4 bytes >>= λ n. Ok (instr.GotoWide n.0, n.1)
-read_form at form.TableSwitch bytes = read_table at bytes
-read_form at form.LookupSwitch bytes = read_lookup at bytes
-read_form at (form.Pool o) bytes = take_u2 bytes >>= λ n. Ok (instr.Pool o n.0, n.1)
-read_form at form.InvokeInterface bytes = take_u2 bytes >>= λ i. take_u1 i.1 >>= λ c. take_u1 c.1 >>= λ z. cond (eqb z.0 0) (Ok (instr.InvokeInterface i.0 c.0, z.1)) (Err instr_fault.BadOperand)
-read_form at form.NewArray bytes = take_u1 bytes >>= λ c. primitive_at c.0 >>= λ p. Ok (instr.NewArray p, c.1)
-read_form at form.MultiNewArray bytes = take_u2 bytes >>= λ i. take_u1 i.1 >>= λ d. Ok (instr.MultiNewArray i.0 d.0, d.1)
-read_form at form.Wide bytes = read_wide bytes
-read_form at form.Floating bytes = Err instr_fault.Floating
-read_form at form.Unsupported bytes = Err instr_fault.Unsupported
-
-abbrev pub read_at : ℕ → List ℕ → Read Instr
-read_at at [] = Err instr_fault.Truncated
-read_at at (b ∷ bytes) = read_form at (form_at b) bytes
 
 -- ---- what was spelled is read again
 
@@ -168,7 +85,7 @@ lookup_again at l rest fits is =
     ∙ rw (pairs_again None l.pairs rest fits.pairs is.rising) refl
 
 -- an instruction that is spelled at the front is the one that is read there
-pub read_again : (at : ℕ) (i : Instr) (rest : List ℕ) → Fits i → Stands at i → read_at at (spelling i ++ rest) ≡ Ok (i, rest)
+pub read_again : (at : ℕ) (i : Instr) (rest : List ℕ) → Fits i → Stands at i → instr_at at (spelling i ++ rest) ≡ Ok (i, rest)
 read_again at (instr.Simple s) rest fits stands = rw (simple_again s) refl
 read_again at (instr.PushByte n) rest fits stands = rw (form_is 0x10 form.PushByte (lit< tt) refl) (ap (λ (r : Read ℤ). r >>= λ n. Ok (instr.PushByte n.0, n.1)) (s1_again n rest fits))
 read_again at (instr.PushShort n) rest fits stands = rw (form_is 0x11 form.PushShort (lit< tt) refl) (ap (λ (r : Read ℤ). r >>= λ n. Ok (instr.PushShort n.0, n.1)) (s2_again n rest fits))

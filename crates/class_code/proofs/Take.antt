@@ -1,43 +1,15 @@
 -- Operands read from the front: what was spelled is read again, and what is cut off is not read.
-use Rattle.std.proofs.Common.{◌≡◌, ℕ, zero, suc, ◌^◌, ◌<◌, ℤ, List, [], ◌∷◌, ◌++◌, length, Result, Ok, Err, refl, ap, ◌∙◌, append_assoc, arith, w8, w16, w32, FitsSigned}
-use Rattle.std.specs.Int.{from_be_bytes, cast_unsigned, cast_signed}
+use Rattle.std.proofs.Common.{◌≡◌, ℕ, suc, ◌^◌, ◌<◌, ℤ, List, [], ◌∷◌, ◌++◌, length, Ok, Err, refl, ap, ◌∙◌, append_assoc, arith, w8, w16, w32, FitsSigned}
+use Rattle.std.specs.Int.{cast_unsigned, cast_signed}
 use Rattle.std.specs.List.{flat_map, AllByRecursion}
 use Rattle.std.proofs.lemmas.Nat.{from_be_bytes-to_be_bytes_2, from_be_bytes-to_be_bytes_4}
 use Rattle.std.proofs.lemmas.Int.{to_z-of_z}
 use Rattle.std.proofs.Math.Facts.{Fits-of_z}
-use Rattle.class_code.specs.declared.fault.InstrFault.{InstrFault}
 use Rattle.class_code.specs.declared.fault.InstrFault.TheVariants as instr_fault
 use Rattle.class_code.specs.declared.instr.Padding.{Padding}
 use Rattle.class_code.specs.declared.instr.Padding.TheVariants as padding
 use Rattle.class_code.specs.Spelling.{s1, u2, s2, s4, padding_bytes}
-
-infixl 10 ◌>>=◌
-abbrev pub ◌>>=◌ : {A B : Type 0} → Result A InstrFault → (A → Result B InstrFault) → Result B InstrFault
-(Ok x) >>= f = f x
-(Err e) >>= f = Err e
-
-abbrev pub Read : Type 0 → Type 0
-Read A = Result (A × List ℕ) InstrFault
-
-abbrev pub take_u1 : List ℕ → Read ℕ
-take_u1 [] = Err instr_fault.Truncated
-take_u1 (b ∷ bytes) = Ok (b, bytes)
-
-abbrev pub take_s1 : List ℕ → Read ℤ
-take_s1 [] = Err instr_fault.Truncated
-take_s1 (b ∷ bytes) = Ok (cast_signed w8 b, bytes)
-
-abbrev pub take_u2 : List ℕ → Read ℕ
-take_u2 (a ∷ b ∷ bytes) = Ok (from_be_bytes w16 (a ∷ b ∷ []), bytes)
-take_u2 bytes = Err instr_fault.Truncated
-
-abbrev pub take_s2 : List ℕ → Read ℤ
-take_s2 (a ∷ b ∷ bytes) = Ok (cast_signed w16 (from_be_bytes w16 (a ∷ b ∷ [])), bytes)
-take_s2 bytes = Err instr_fault.Truncated
-
-abbrev pub take_s4 : List ℕ → Read ℤ
-take_s4 (a ∷ b ∷ c ∷ d ∷ bytes) = Ok (cast_signed w32 (from_be_bytes w32 (a ∷ b ∷ c ∷ d ∷ [])), bytes)
-take_s4 bytes = Err instr_fault.Truncated
+use Rattle.class_code.specs.OperandReading.{take_u1, take_s1, take_u2, take_s2, take_s4, take_padding, take_words}
 
 -- ---- what was spelled is read again
 
@@ -83,13 +55,6 @@ s4_cut (a ∷ b ∷ c ∷ d ∷ bytes) lt = absurd (omega arith)
 
 -- ---- the bytes before a switch's operands
 
-abbrev pub take_padding : ℕ → List ℕ → Read Padding
-take_padding zero bytes = Ok (padding.None, bytes)
-take_padding (suc zero) (a ∷ bytes) = Ok (padding.One a, bytes)
-take_padding (suc (suc zero)) (a ∷ b ∷ bytes) = Ok (padding.Two a b, bytes)
-take_padding (suc (suc (suc zero))) (a ∷ b ∷ c ∷ bytes) = Ok (padding.Three a b c, bytes)
-take_padding n bytes = Err instr_fault.Truncated
-
 pub padding_again : (n : ℕ) (p : Padding) (rest : List ℕ) → length (padding_bytes p) ≡ n → take_padding n (padding_bytes p ++ rest) ≡ Ok (p, rest)
 padding_again n padding.None rest e = rw (← e) refl
 padding_again n (padding.One a) rest e = rw (← e) refl
@@ -97,10 +62,6 @@ padding_again n (padding.Two a b) rest e = rw (← e) refl
 padding_again n (padding.Three a b c) rest e = rw (← e) refl
 
 -- ---- some numbers, one after the other
-
-abbrev pub take_words : ℕ → List ℕ → Read (List ℤ)
-take_words zero bytes = Ok ([], bytes)
-take_words (suc n) bytes = take_s4 bytes >>= λ first. take_words n first.1 >>= λ others. Ok (first.0 ∷ others.0, others.1)
 
 pub words_again : (ns : List ℤ) (rest : List ℕ) → AllByRecursion (FitsSigned w32) ns → take_words (length ns) (flat_map s4 ns ++ rest) ≡ Ok (ns, rest)
 words_again [] rest fits = refl

@@ -6,4 +6,7 @@ pub mod Listing
 pub mod Forms
 pub mod Faults
 pub mod FirstFaults
+pub mod FormSearch
+pub mod OperandReading
+pub mod CodeReading
 pub mod Skips
