@@ -6,5 +6,7 @@ pub mod Take
 pub mod Numbers
 pub mod ReadBack
 pub mod FaultBack
+pub mod OperandCases
 pub mod Listings
 pub mod LenLaws
+pub mod InstrCases

@@ -31,7 +31,7 @@ primitive_again primitive.Long = refl
 
 -- ---- what was spelled is read again
 
-length_s4 : (n : ℤ) → length (s4 n) ≡ 4
+pub length_s4 : (n : ℤ) → length (s4 n) ≡ 4
 unfolding s4
 length_s4 n = refl
 
