@@ -1,8 +1,7 @@
 -- A whole instruction stands at the front of some bytes, or a fault; and what is read there is the one or the other.
-use Rattle.std.proofs.Common.{◌≡◌, inl, inr, ℕ, zero, suc, ◌+◌, ◌-◌, ◌*◌, ◌^◌, ◌<◌, ◌≤◌, true, false, ℤ, pos, negsuc, ◌+ℤ◌, ◌-ℤ◌, ◌≤ℤ◌, ◌<ℤ◌, List, [], ◌∷◌, ◌++◌, length, Option, Some, None, Result, Ok, Err, refl, sym, ap, ◌∙◌, subst, append_assoc, length-append, arith, lit<, w16, w32, FitsSigned}
+use Rattle.std.proofs.Common.{◌≡◌, inl, inr, ℕ, ◌+◌, ℤ, pos, negsuc, ◌+ℤ◌, ◌-ℤ◌, ◌≤ℤ◌, List, [], ◌∷◌, ◌++◌, length, None, Ok, Err, refl, sym, ap, ◌∙◌, subst, arith, lit<, w16}
 use Rattle.std.specs.Prelude.{◌⊎◌}
 use Rattle.std.specs.Int.{from_be_bytes}
-use Rattle.std.specs.List.{flat_map, AllByRecursion}
 use Rattle.std.proofs.lemmas.Bool.{cases_lt}
 use Rattle.std.proofs.lemmas.Bool.Decides.{eqb_tells}
 use Rattle.std.proofs.lemmas.Int.{ints, by_lt_z}
@@ -14,22 +13,20 @@ use Rattle.class_code.specs.declared.form.Form.TheVariants as form
 use Rattle.class_code.specs.declared.instr.Padding.{Padding}
 use Rattle.class_code.specs.declared.instr.Instr.{Instr}
 use Rattle.class_code.specs.declared.instr.Instr.TheVariants as instr
-use Rattle.class_code.specs.Codes.{kind_place, simple_code, branch_code, pool_code}
-use Rattle.class_code.specs.Spelling.{s1, u2, s2, s4, padding_bytes, padding_len, pair_bytes, Rises, spelling, Stands}
-use Rattle.class_code.specs.Ranges.{PairFits, Fits}
+use Rattle.class_code.specs.Spelling.{s4, padding_bytes, padding_len, spelling, Stands}
+use Rattle.class_code.specs.Ranges.{Fits}
 use Rattle.class_code.specs.Listing.{IsInstrAt}
 use Rattle.class_code.specs.Forms.{IsForm}
-use Rattle.class_code.specs.Faults.{IsCut, IsTableHead, IsCount, IsLookupHead, TableRestFault, TableFault, last_key, LookupRestFault, LookupFault, PairsFault, WidenedFault, WideFault, FormFault, HeadFault}
+use Rattle.class_code.specs.Faults.{IsTableHead, IsCount, IsLookupHead, last_key, FormFault, HeadFault}
 use Rattle.class_code.specs.FormSearch.{form_at}
-use Rattle.class_code.specs.OperandReading.{Read}
 use Rattle.class_code.specs.CodeReading.{instr_at}
 use Rattle.class_code.specs.Skips.{SkipsWords, SkipsPairs}
 use Rattle.class_code.proofs.FormAt.{form_found}
 use Rattle.class_code.proofs.Numbers.{le_false}
-use Rattle.class_code.proofs.ReadBack.{read_again, length_s4}
+use Rattle.class_code.proofs.ReadBack.{read_again, not_done, done_is, failed_is}
 use Rattle.class_code.proofs.FaultBack.{IsBytes, fault_again}
-use Rattle.class_code.proofs.OperandCases.{two, u1_or_cut, s1_or_cut, u2_or_cut, s2_or_cut, s4_or_cut, s4_of, Padded, padding_of, words_or_cut, StopsIn, pairs_or_fault, primitive_or_fault}
-use Rattle.class_code.proofs.LenLaws.{made, made_table, made_lookup, skips_table, skips_lookup, positive, abs_small}
+use Rattle.class_code.proofs.OperandCases.{two, u1_or_cut, s1_or_cut, u2_or_cut, s2_or_cut, s4_or_cut, s4_of, padding_of, words_or_cut, pairs_or_fault, primitive_or_fault}
+use Rattle.class_code.proofs.LenLaws.{made, made_table, made_lookup, skips_table, skips_lookup, positive}
 
 -- a whole instruction, or what is a fault at this opcode
 abbrev Case : ℕ → ℕ → Form → List ℕ → Type 0
@@ -216,21 +213,6 @@ instr_or_fault at b bytes fits = elim (form_case at b (form_at b) bytes (form_fo
 ]
 
 -- ---- what is read is the one or the other
-
-abbrev pub done : Instr × List ℕ → Read Instr
-done x = Ok x
-
-abbrev pub failed : InstrFault → Read Instr
-failed why = Err why
-
-pub not_done : (x : Instr × List ℕ) (why : InstrFault) → done x ≡ failed why → ⊥
-not_done x why e = cc
-
-pub done_is : (x y : Instr × List ℕ) → done x ≡ done y → x ≡ y
-done_is x y e = cc
-
-pub failed_is : (why other : InstrFault) → failed why ≡ failed other → why ≡ other
-failed_is why other e = cc
 
 -- An instruction that may stand at this offset, at the front of these bytes, before the others.
 abbrev pub IsAtFront : ℕ → List ℕ → Instr → List ℕ → Type 0

@@ -1,5 +1,5 @@
 -- How long an instruction is, from what is left after it.
-use Rattle.std.proofs.Common.{◌≡◌, ℕ, ◌+◌, ◌-◌, ◌≤◌, ◌<◌, ◌^◌, ℤ, pos, negsuc, false, ◌≤ℤ◌, List, ◌∷◌, ◌++◌, length, length-append, append_assoc, arith, ap, ◌∙◌, Option, Ok, Err, sym, refl, FitsSigned, w32}
+use Rattle.std.proofs.Common.{◌≡◌, ℕ, ◌+◌, ◌-◌, ◌≤◌, ◌<◌, ◌^◌, ℤ, pos, negsuc, false, ◌≤ℤ◌, List, ◌∷◌, ◌++◌, length, length-append, append_assoc, arith, ap, ◌∙◌, Option, sym, refl, FitsSigned, w32}
 use Rattle.std.specs.Prelude.{int_lt}
 use Rattle.std.proofs.Math.IntN.{nat_abs}
 use Rattle.std.specs.List.{flat_map}
@@ -12,14 +12,13 @@ use Rattle.class_code.specs.Ranges.{Fits}
 use Rattle.class_code.specs.Listing.{IsInstrAt}
 use Rattle.class_code.specs.Faults.{IsCount, IsTableHead, IsLookupHead, HeadFault}
 use Rattle.class_code.specs.Skips.{SkipsWords, SkipsPairs, SkipsTable, SkipsLookup}
-use Rattle.class_code.specs.OperandReading.{Read}
 use Rattle.class_code.specs.CodeReading.{instr_at}
 use Rattle.class_code.proofs.Loops.{table_parts}
-use Rattle.class_code.proofs.ReadBack.{read_again}
+use Rattle.class_code.proofs.ReadBack.{done, not_done, read_again}
 use Rattle.class_code.proofs.FaultBack.{IsBytes, fault_again}
 
 -- an instruction that may stand in code takes a byte or more
-has_first : (i : Instr) → Fits i → 1 ≤ length (spelling i)
+pub has_first : (i : Instr) → Fits i → 1 ≤ length (spelling i)
 has_first (instr.PushInt n) fits = absurd fits
 has_first (instr.PushLong n) fits = absurd fits
 has_first i fits = omega arith
@@ -48,20 +47,11 @@ skips_table at bytes p d l h n rest after head order count s = record {
   parts = table_parts (padding_bytes p) (s4 d) (s4 l) (s4 h) (flat_map s4 s.words) bytes rest after head.parts s.parts;
 }
 
-abbrev done : Instr × List ℕ → Read Instr
-done x = Ok x
-
-abbrev failed : InstrFault → Read Instr
-failed w = Err w
-
-clash : (x : Instr × List ℕ) (w : InstrFault) → done x ≡ failed w → ⊥
-clash x w e = cc
-
 -- where a fault stands, no instruction does
 pub not_both : (at n : ℕ) (bytes : List ℕ) (w : InstrFault) → IsBytes bytes → HeadFault at bytes w → IsInstrAt at bytes n → ⊥
 not_both at n bytes w fits e i =
     let whole : instr_at at bytes ≡ done (i.instr, i.rest) = ap (instr_at at) i.parts ∙ read_again at i.instr i.rest i.fits i.stands in
-    clash (i.instr, i.rest) w (sym whole ∙ fault_again at bytes w fits e)
+    not_done (i.instr, i.rest) w (sym whole ∙ fault_again at bytes w fits e)
 
 lookup_parts : (p d c k o bytes rest after : List ℕ) → bytes ≡ p ++ (d ++ (c ++ rest)) → c ≡ k → rest ≡ o ++ after → bytes ≡ (p ++ (d ++ (k ++ o))) ++ after
 lookup_parts p d c k o bytes rest after parts same entries = parts ∙ rw (same, entries) (simp append_assoc)

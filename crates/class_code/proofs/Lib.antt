@@ -10,3 +10,5 @@ pub mod OperandCases
 pub mod Listings
 pub mod LenLaws
 pub mod InstrCases
+pub mod ListCases
+pub mod Examples

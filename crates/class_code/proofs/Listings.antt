@@ -11,33 +11,20 @@ use Rattle.class_code.specs.Spelling.{spelling}
 use Rattle.class_code.specs.Listing.{spelled, InPlace, IsSpelled, IsListing, astray}
 use Rattle.class_code.specs.Faults.{HeadFault}
 use Rattle.class_code.specs.FirstFaults.{StopsAt, FirstFault, placed, Gives, Refuses, IfFault}
-use Rattle.class_code.specs.OperandReading.{Read}
 use Rattle.class_code.specs.CodeReading.{instr_at}
-use Rattle.class_code.proofs.ReadBack.{read_again}
+use Rattle.class_code.proofs.ReadBack.{done, failed, done_is, failed_is, read_again}
 use Rattle.class_code.proofs.FaultBack.{IsBytes, fault_again}
 
 abbrev pub Pairs : Type 0
 Pairs = List (ℕ × Instr)
 
-abbrev done : Instr × List ℕ → Read Instr
-done x = Ok x
-
-abbrev failed : InstrFault → Read Instr
-failed w = Err w
-
 -- what is read at the front of some spelled instructions
-first_read : (at : ℕ) (p : ℕ × Instr) (ps : Pairs) (rest : List ℕ) → InPlace at (p ∷ ps) → instr_at at (spelled (p ∷ ps) ++ rest) ≡ done (p.1, spelled ps ++ rest)
+pub first_read : (at : ℕ) (p : ℕ × Instr) (ps : Pairs) (rest : List ℕ) → InPlace at (p ∷ ps) → instr_at at (spelled (p ∷ ps) ++ rest) ≡ done (p.1, spelled ps ++ rest)
 first_read at p ps rest place =
     ap (instr_at at) (append_assoc (spelling p.1) (spelled ps) rest) ∙ read_again at p.1 (spelled ps ++ rest) place.1 place.2
 
-ok_is : (x y : Instr × List ℕ) → done x ≡ done y → x ≡ y
-ok_is x y e = cc
-
-err_is : (w v : InstrFault) → failed w ≡ failed v → w ≡ v
-err_is w v e = cc
-
 -- the bytes after a front that fit
-bytes_after : (xs ys : List ℕ) → IsBytes (xs ++ ys) → IsBytes ys
+pub bytes_after : (xs ys : List ℕ) → IsBytes (xs ++ ys) → IsBytes ys
 bytes_after [] ys fits = fits
 bytes_after (x ∷ xs) ys fits = bytes_after xs ys fits.1
 
@@ -49,7 +36,7 @@ ends_read : (at : ℕ) (rest : List ℕ) (x : Instr × List ℕ) → IsBytes res
 ends_read at rest x fits (inl e) read = let none : instr_at at rest ≡ failed instr_fault.Truncated = rw e refl in let clash : done x ≡ failed instr_fault.Truncated = sym read ∙ none in cc
 ends_read at rest x fits (inr (w, e)) read = let clash : done x ≡ failed w = sym read ∙ fault_again at rest w fits e in cc
 
-pair_is : (p q : ℕ × Instr) → p.0 ≡ q.0 → p.1 ≡ q.1 → p ≡ q
+pub pair_is : (p q : ℕ × Instr) → p.0 ≡ q.0 → p.1 ≡ q.1 → p ≡ q
 pair_is p q offset instr = ap (λ (o : ℕ). (o, p.1)) offset ∙ ap (λ (i : Instr). (q.0, i)) instr
 
 pub same_front : (at : ℕ) (ps qs : Pairs) (r s : List ℕ) → IsBytes (spelled ps ++ r) → InPlace at ps → InPlace at qs → Ends (at + length (spelled ps)) r → Ends (at + length (spelled qs)) s
@@ -61,7 +48,7 @@ same_front at (p ∷ ps) [] r s fits pp qq pe qe e =
     absurd (ends_read at s (p.1, spelled ps ++ r) (subst IsBytes e fits) (subst (λ (o : ℕ). Ends o s) (omega arith) qe) (ap (instr_at at) (sym e) ∙ first_read at p ps r pp))
 same_front at (p ∷ ps) (q ∷ qs) r s fits pp qq pe qe e =
     let both : done (p.1, spelled ps ++ r) ≡ done (q.1, spelled qs ++ s) = sym (first_read at p ps r pp) ∙ ap (instr_at at) e ∙ first_read at q qs s qq in
-    let parts = ok_is (p.1, spelled ps ++ r) (q.1, spelled qs ++ s) both in
+    let parts = done_is (p.1, spelled ps ++ r) (q.1, spelled qs ++ s) both in
     let same : p.1 ≡ q.1 = ap (λ (x : Instr × List ℕ). x.0) parts in
     let after : spelled ps ++ r ≡ spelled qs ++ s = ap (λ (x : Instr × List ℕ). x.1) parts in
     let next : ℕ = at + length (spelling p.1) in
@@ -74,7 +61,7 @@ same_front at (p ∷ ps) (q ∷ qs) r s fits pp qq pe qe e =
     let pair : p ≡ q = pair_is p q here same in
     (ap (λ (x : ℕ × Instr). x ∷ ps) pair ∙ ap (λ (x : Pairs). q ∷ x) others.0, others.1)
 
-whole : (code : List ℕ) (ps : Pairs) → IsSpelled code ps → code ≡ spelled ps ++ []
+pub whole : (code : List ℕ) (ps : Pairs) → IsSpelled code ps → code ≡ spelled ps ++ []
 whole code ps is = is.whole ∙ sym (append-nil (spelled ps))
 
 -- one list
@@ -99,7 +86,7 @@ one_stop code w v at o fits f g =
     let bytes : IsBytes f.rest = bytes_after (spelled f.front) f.rest (subst IsBytes f.parts fits) in
     let left : instr_at at f.rest ≡ failed w = fault_again at f.rest w bytes f.fault in
     let right : instr_at o g.rest ≡ failed v = fault_again o g.rest v (subst IsBytes both.1 bytes) g.fault in
-    (err_is w v (sym left ∙ ap (instr_at at) both.1 ∙ ap (λ (x : ℕ). instr_at x g.rest) place ∙ right), place)
+    (failed_is w v (sym left ∙ ap (instr_at at) both.1 ∙ ap (λ (x : ℕ). instr_at x g.rest) place ∙ right), place)
 
 -- not both a list and a fault
 pub list_or_fault : (code : List ℕ) (ps : Pairs) (f : CodeFault) → IsBytes code → IsListing code ps → FirstFault code f → ⊥

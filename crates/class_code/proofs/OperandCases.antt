@@ -1,9 +1,8 @@
 -- Each operand stands whole at the front of some bytes, or is cut off or not allowed.
-use Rattle.std.proofs.Common.{◌≡◌, inl, inr, ℕ, zero, suc, ◌+◌, ◌*◌, ◌^◌, ◌<◌, ◌≤◌, lit<, ℤ, List, [], ◌∷◌, ◌++◌, length, Option, Some, None, refl, sym, ap, ◌∙◌, append_assoc, length-append, arith, get_or, w8, w16, w32, FitsSigned}
+use Rattle.std.proofs.Common.{◌≡◌, inl, inr, ℕ, zero, suc, ◌+◌, ◌*◌, ◌^◌, ◌<◌, ◌≤◌, lit<, ℤ, List, [], ◌∷◌, ◌++◌, length, Option, Some, None, refl, sym, ap, ◌∙◌, append_assoc, arith, get_or, w8, w16, w32, FitsSigned}
 use Rattle.std.specs.Prelude.{◌⊎◌}
 use Rattle.std.specs.Int.{from_be_bytes, to_be_bytes, cast_signed}
 use Rattle.std.specs.List.{flat_map, AllByRecursion}
-use Rattle.std.proofs.lemmas.Bool.{cases_lt}
 use Rattle.std.proofs.lemmas.Nat.{be_bytes_2, be_bytes_4}
 use Rattle.std.proofs.lemmas.Int.{of_z-to_z, by_lt_z}
 use Rattle.std.proofs.Math.Facts.{sfits_to_z}
@@ -17,7 +16,6 @@ use Rattle.class_code.specs.Codes.{primitive_code}
 use Rattle.class_code.specs.Spelling.{s1, u2, s2, s4, padding_bytes, pair_bytes, IsAbove, Rises}
 use Rattle.class_code.specs.Ranges.{PairFits}
 use Rattle.class_code.specs.Faults.{PrimitiveFault, IsNotAbove, last_key, PairFault}
-use Rattle.class_code.proofs.ReadBack.{length_s4}
 use Rattle.class_code.proofs.FaultBack.{IsBytes}
 
 -- what is spelled so at the front takes k bytes, and is followed by bytes

@@ -4,6 +4,7 @@ use Rattle.std.specs.List.{flat_map, AllByRecursion}
 use Rattle.std.proofs.lemmas.Bool.{le-ltb}
 use Rattle.class_code.specs.declared.fault.InstrFault.TheVariants as instr_fault
 use Rattle.class_code.specs.declared.form.Form.TheVariants as form
+use Rattle.class_code.specs.declared.fault.InstrFault.{InstrFault}
 use Rattle.class_code.specs.declared.instr.Padding.{Padding}
 use Rattle.class_code.specs.declared.instr.Primitive.{Primitive}
 use Rattle.class_code.specs.declared.instr.Primitive.TheVariants as primitive
@@ -83,6 +84,23 @@ lookup_again at l rest fits is =
     let head : IsLookupHead at (lookup_bytes l ++ rest) l.padding l.default (pos (length l.pairs)) (pairs ++ rest) = record { parts = simp append_assoc; place = is.padding; fits = (fits.default, short_fits (length l.pairs) is.count) } in
     lookup_head_again at (lookup_bytes l ++ rest) l.padding l.default (pos (length l.pairs)) (pairs ++ rest) head
     ∙ rw (pairs_again None l.pairs rest fits.pairs is.rising) refl
+
+-- ---- what reading answers
+
+abbrev pub done : Instr × List ℕ → Read Instr
+done x = Ok x
+
+abbrev pub failed : InstrFault → Read Instr
+failed why = Err why
+
+pub not_done : (x : Instr × List ℕ) (why : InstrFault) → done x ≡ failed why → ⊥
+not_done x why e = cc
+
+pub done_is : (x y : Instr × List ℕ) → done x ≡ done y → x ≡ y
+done_is x y e = cc
+
+pub failed_is : (why other : InstrFault) → failed why ≡ failed other → why ≡ other
+failed_is why other e = cc
 
 -- an instruction that is spelled at the front is the one that is read there
 pub read_again : (at : ℕ) (i : Instr) (rest : List ℕ) → Fits i → Stands at i → instr_at at (spelling i ++ rest) ≡ Ok (i, rest)

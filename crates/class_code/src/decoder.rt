@@ -1,8 +1,9 @@
-ghost use Rattle.std.specs.Prelude.{◌≡◌, ◌<◌, ◌^◌, ℕ, List, length, IfOk, IfErr};
+ghost use Rattle.std.specs.Prelude.{◌≡◌, ◌<◌, ◌^◌, ℕ, List, length, Some, None, IfOk, IfErr};
 ghost use Rattle.class_code.specs.declared.instr.Instr.{Instr};
 ghost use Rattle.class_code.specs.declared.fault.CodeFault.{CodeFault};
 ghost use Rattle.class_code.specs.Listing.{IsSpelled, IsListing};
 ghost use Rattle.class_code.specs.FirstFaults.{FirstFault, IfFault, Gives, Refuses, placed};
+ghost use Rattle.class_code.specs.CodeReading.{list_of};
 
 use crate::fault::{CodeFault, InstrFault, Unread};
 use crate::instr::Instr;
@@ -76,6 +77,10 @@ pub fn decode(alloc: Global, code: &[u8]) -> Result<Vec<(u16, Instr)>, CodeFault
 
     // A code that has a first fault is refused for it, unless memory runs out.
     ensures exact { (f : CodeFault) → FirstFault code.now f → Refuses result f }
+
+    // What is decoded is what the code reads as, and a code that is refused reads as no list, unless memory ran out.
+    ensures listed { IfOk result (λ v. list_of code.now ≡ Some v.items) }
+    ensures unlisted { IfErr result (λ e. IfFault e (λ _. list_of code.now ≡ None)) }
 {
     listing_of(alloc, code)
 }
