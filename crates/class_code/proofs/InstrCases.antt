@@ -1,6 +1,6 @@
 -- A whole instruction stands at the front of some bytes, or a fault; and what is read there is the one or the other.
 use Rattle.std.proofs.Common.{◌≡◌, inl, inr, ℕ, ◌+◌, ℤ, pos, negsuc, ◌+ℤ◌, ◌-ℤ◌, ◌≤ℤ◌, List, [], ◌∷◌, ◌++◌, length, None, Ok, Err, refl, sym, ap, ◌∙◌, subst, arith, lit<, w16}
-use Rattle.std.specs.Prelude.{◌⊎◌}
+use Rattle.std.specs.Prelude.{◌⊎◌, Result, IfOk, IfErr}
 use Rattle.std.specs.Int.{from_be_bytes}
 use Rattle.std.proofs.lemmas.Bool.{cases_lt}
 use Rattle.std.proofs.lemmas.Bool.Decides.{eqb_tells}
@@ -8,6 +8,8 @@ use Rattle.std.proofs.lemmas.Int.{ints, by_lt_z}
 use Rattle.std.proofs.Math.IntN.{nat_abs, -ℤ-+ℤ_cancel}
 use Rattle.class_code.specs.declared.fault.InstrFault.{InstrFault}
 use Rattle.class_code.specs.declared.fault.InstrFault.TheVariants as instr_fault
+use Rattle.class_code.specs.declared.fault.Unread.{Unread}
+use Rattle.class_code.specs.declared.fault.Unread.TheVariants as unread
 use Rattle.class_code.specs.declared.form.Form.{Form}
 use Rattle.class_code.specs.declared.form.Form.TheVariants as form
 use Rattle.class_code.specs.declared.instr.Padding.{Padding}
@@ -17,7 +19,7 @@ use Rattle.class_code.specs.Spelling.{s4, padding_bytes, padding_len, spelling, 
 use Rattle.class_code.specs.Ranges.{Fits}
 use Rattle.class_code.specs.Listing.{IsInstrAt}
 use Rattle.class_code.specs.Forms.{IsForm}
-use Rattle.class_code.specs.Faults.{IsTableHead, IsCount, IsLookupHead, last_key, FormFault, HeadFault}
+use Rattle.class_code.specs.Faults.{IsTableHead, IsCount, IsLookupHead, last_key, FormFault, HeadFault, IfInstrFault}
 use Rattle.class_code.specs.FormSearch.{form_at}
 use Rattle.class_code.specs.CodeReading.{instr_at}
 use Rattle.class_code.specs.Skips.{SkipsWords, SkipsPairs}
@@ -240,3 +242,16 @@ fault_found at b bytes why fits e = elim (instr_or_fault at b bytes fits) [
   | inl (n, j) ↦ absurd (not_done (j.instr, j.rest) why (sym (instr_again at (b ∷ bytes) j.instr j.rest (j.parts, j.fits, j.stands)) ∙ e))
   | inr (other, fault) ↦ subst (λ (w : InstrFault). HeadFault at (b ∷ bytes) w) (failed_is other why (sym (fault_again at (b ∷ bytes) other fits fault) ∙ e)) fault
 ]
+
+-- ---- what a reader that answers what stands there also answers
+
+pub read : {V : Type 0} (first : V → Instr) (after : V → List ℕ) (at : ℕ) (bytes : List ℕ) (r : Result V Unread)
+    → IfOk r (λ x. (bytes ≡ spelling (first x) ++ after x) × Stands at (first x)) → IfOk r (λ x. Fits (first x)) → IfOk r (λ x. instr_at at bytes ≡ Ok (first x, after x))
+read first after at bytes (Ok x) found fits = instr_again at bytes (first x) (after x) (found.0, fits, found.1)
+read first after at bytes (Err e) found fits = tt
+
+pub refused : {V : Type 0} (at : ℕ) (bytes : List ℕ) (r : Result V Unread) → IsBytes bytes
+    → IfErr r (λ e. IfInstrFault e (HeadFault at bytes)) → IfErr r (λ e. IfInstrFault e (λ why. instr_at at bytes ≡ Err why))
+refused at bytes (Ok x) fits fault = tt
+refused at bytes (Err unread.Memory) fits fault = tt
+refused at bytes (Err (unread.Fault why)) fits fault = fault_again at bytes why fits fault

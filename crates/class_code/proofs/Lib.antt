@@ -11,4 +11,5 @@ pub mod Listings
 pub mod LenLaws
 pub mod InstrCases
 pub mod ListCases
+pub mod PoolLaws
 pub mod Examples

@@ -4,6 +4,8 @@ use Rattle.std.specs.Int.{w32}
 use Rattle.std.specs.List.{flat_map, AllByRecursion}
 use Rattle.class_code.specs.declared.fault.InstrFault.{InstrFault}
 use Rattle.class_code.specs.declared.fault.InstrFault.TheVariants as instr_fault
+use Rattle.class_code.specs.declared.fault.Unread.{Unread}
+use Rattle.class_code.specs.declared.fault.Unread.TheVariants as unread
 use Rattle.class_code.specs.declared.form.Form.{Form}
 use Rattle.class_code.specs.declared.form.Form.TheVariants as form
 use Rattle.class_code.specs.declared.instr.Padding.{Padding}
@@ -145,3 +147,8 @@ FormFault at f bytes why = OperandsFault f bytes why
 abbrev pub HeadFault : ℕ → List ℕ → InstrFault → Type 0
 HeadFault at [] why = ⊥
 HeadFault at (b ∷ bytes) why = (f : Form) × IsForm b f × FormFault at f bytes why
+
+-- a fact of the fault for which an instruction was not read, and nothing where memory ran out
+abbrev pub IfInstrFault : Unread → (InstrFault → Type 0) → Type 0
+IfInstrFault unread.Memory P = Unit {0}
+IfInstrFault (unread.Fault why) P = P why

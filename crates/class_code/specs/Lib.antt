@@ -9,4 +9,5 @@ pub mod FirstFaults
 pub mod FormSearch
 pub mod OperandReading
 pub mod CodeReading
+pub mod PoolUses
 pub mod Skips

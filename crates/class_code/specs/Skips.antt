@@ -2,9 +2,6 @@
 use Rattle.std.specs.Prelude.{◌≡◌, ℕ, ℤ, FitsSigned, List, ◌++◌, length, Option, None}
 use Rattle.std.specs.List.{flat_map, AllByRecursion}
 use Rattle.std.specs.Int.{w32}
-use Rattle.class_code.specs.declared.fault.InstrFault.{InstrFault}
-use Rattle.class_code.specs.declared.fault.Unread.{Unread}
-use Rattle.class_code.specs.declared.fault.Unread.TheVariants as unread
 use Rattle.class_code.specs.declared.form.Form.{Form}
 use Rattle.class_code.specs.declared.form.Form.TheVariants as form
 use Rattle.class_code.specs.declared.instr.TableSwitch.{TableSwitch}
@@ -12,11 +9,6 @@ use Rattle.class_code.specs.declared.instr.LookupSwitch.{LookupSwitch}
 use Rattle.class_code.specs.Spelling.{s4, pair_bytes, Rises, IsTable, IsLookup, table_bytes, lookup_bytes}
 use Rattle.class_code.specs.Ranges.{PairFits, TableFits, LookupFits}
 use Rattle.class_code.specs.Faults.{last_key}
-
--- a fact of the fault, if it is not want of memory
-abbrev pub IfInstrFault : Unread → (InstrFault → Type 0) → Type 0
-IfInstrFault unread.Memory P = Unit {0}
-IfInstrFault (unread.Fault why) P = P why
 
 -- the form's operands are the same wherever it stands
 abbrev pub IsPlain : Form → Type 0

@@ -3,23 +3,31 @@ ghost use Rattle.std.specs.Prelude.{◌≡◌};
 use std::alloc::{AllocError, AllocFailed};
 use thiserror::Error;
 
-/// Why no instruction begins at a place.
-#[derive(Clone, Copy)]
+/// Why no instruction begins at a place. `CodeFault` says more of each.
+#[derive(Clone, Copy, Debug, PartialEq, Eq, Error)]
 pub enum InstrFault {
     /// It is one of `float` or `double`.
+    #[error("an instruction of float or double")]
     Floating,
     /// It is not supported.
+    #[error("an instruction that is not supported")]
     Unsupported,
     /// The code ends within it.
+    #[error("an instruction that is cut off")]
     Truncated,
     /// An operand is not allowed.
+    #[error("an operand that is not allowed")]
     BadOperand,
 }
 
 /// Why an instruction was not read.
-#[derive(Drop)]
+#[derive(Clone, Copy, Debug, PartialEq, Eq, Error)]
 pub enum Unread {
+    /// Memory ran out, which says nothing of the bytes.
+    #[error("out of memory")]
     Memory,
+    /// No instruction begins there.
+    #[error("{0}")]
     Fault(InstrFault),
 }
 

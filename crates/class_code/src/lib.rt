@@ -20,17 +20,21 @@ mod instr;
 mod lengths;
 mod number;
 mod operands;
+mod pool;
 mod reading;
 mod switch;
 mod targets;
 
 pub use decoder::decode;
-pub use fault::CodeFault;
+pub use fault::{CodeFault, InstrFault, Unread};
 pub use instr::{
     Arithmetic, Branch, Condition, Conversion, Element, Instr, IntConst, Kind, LongConst,
     LookupSwitch, Padding, PoolOp, Primitive, Simple, Slot, StackOp, TableSwitch, Width,
 };
 pub use lengths::length_at;
+pub use pool::{PoolUse, pool_use_at};
+pub use reading::instr_at;
+pub use targets::{begins_at, first_astray};
 
 #[cfg(test)]
 mod tests;

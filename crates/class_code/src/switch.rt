@@ -3,8 +3,7 @@ ghost use Rattle.std.specs.List.{flat_map, AllByRecursion};
 ghost use Rattle.std.specs.Int.{w32};
 ghost use Rattle.class_code.specs.Spelling.{s4, padding_bytes, padding_len, pair_bytes, IsAbove, Rises, spelling, Stands};
 ghost use Rattle.class_code.specs.Ranges.{PairFits, Fits};
-ghost use Rattle.class_code.specs.Faults.{IsCut, IsTableHead, IsCount, TableFault, IsLookupHead, PairFault, PairsFault, LookupFault};
-ghost use Rattle.class_code.specs.Skips.{IfInstrFault};
+ghost use Rattle.class_code.specs.Faults.{IsCut, IsTableHead, IsCount, TableFault, IsLookupHead, PairFault, PairsFault, LookupFault, IfInstrFault};
 
 use crate::fault::{InstrFault, Unread};
 use crate::instr::{Instr, LookupSwitch, Padding, TableSwitch};

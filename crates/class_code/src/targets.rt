@@ -15,6 +15,15 @@ fn is_begun(list: &[(u16, Instr)], target: i64) -> bool
         .is_ok()
 }
 
+/// Whether an instruction of the list begins at this offset, by halving. The offsets rise in a list that `decode` made, or
+/// `instr_at` one instruction after the other.
+pub fn begins_at(list: &[(u16, Instr)], at: u16) -> bool
+    requires { IsNonDecreasingBy (λ p. p.0) list.now }
+    ensures { result ≡ begins list.now (pos at) }
+{
+    is_begun(list, i64::from(at))
+}
+
 /// Whether an instruction begins so far from this offset.
 fn reaches(list: &[(u16, Instr)], at: u16, by: i32) -> bool
     requires { IsNonDecreasingBy (λ p. p.0) list.now }
@@ -55,8 +64,8 @@ fn lands_well(list: &[(u16, Instr)], at: u16, instr: &Instr) -> bool
     }
 }
 
-/// The first instruction that leads to where none begins. The time grows as that of sorting: each target is looked up
-/// by halving.
+/// The offset of the first instruction that leads to where none begins. The offsets rise in a list that `instr_at` made, one
+/// instruction after the other. The time grows as that of sorting: each target is looked up by halving.
 pub fn first_astray(list: &[(u16, Instr)]) -> Option<u16>
     requires { IsNonDecreasingBy (λ p. p.0) list.now }
     ensures { result ≡ option_map (λ p. p.0) (astray list.now) }
