@@ -1,26 +1,18 @@
 -- The one form of each opcode: the search finds it.
-use Rattle.std.proofs.Common.{zero, suc, inl, inr, arith, ◌≡◌, ℕ, ◌+◌, ◌*◌, ◌<◌, Bool, true, false, cond, eqb, List, [], ◌∷◌, refl, sym, subst}
+use Rattle.std.proofs.Common.{zero, suc, inl, inr, arith, ◌≡◌, ℕ, ◌+◌, ◌<◌, Bool, true, false, cond, eqb, List, [], ◌∷◌, refl, sym, subst}
 use Rattle.class_code.specs.declared.form.Form.{Form}
 use Rattle.class_code.specs.declared.form.Form.TheVariants as form
 use Rattle.class_code.specs.declared.instr.Simple.{Simple}
 use Rattle.class_code.specs.declared.instr.Simple.TheVariants as simple
-use Rattle.class_code.specs.declared.instr.IntConst.{IntConst}
 use Rattle.class_code.specs.declared.instr.IntConst.TheVariants as int_const
-use Rattle.class_code.specs.declared.instr.LongConst.{LongConst}
 use Rattle.class_code.specs.declared.instr.LongConst.TheVariants as long_const
 use Rattle.class_code.specs.declared.instr.Kind.{Kind}
 use Rattle.class_code.specs.declared.instr.Kind.TheVariants as kind
-use Rattle.class_code.specs.declared.instr.Slot.{Slot}
 use Rattle.class_code.specs.declared.instr.Slot.TheVariants as slot
-use Rattle.class_code.specs.declared.instr.Element.{Element}
 use Rattle.class_code.specs.declared.instr.Element.TheVariants as element
-use Rattle.class_code.specs.declared.instr.StackOp.{StackOp}
 use Rattle.class_code.specs.declared.instr.StackOp.TheVariants as stack_op
-use Rattle.class_code.specs.declared.instr.Arithmetic.{Arithmetic}
 use Rattle.class_code.specs.declared.instr.Arithmetic.TheVariants as arithmetic
-use Rattle.class_code.specs.declared.instr.Width.{Width}
 use Rattle.class_code.specs.declared.instr.Width.TheVariants as width
-use Rattle.class_code.specs.declared.instr.Conversion.{Conversion}
 use Rattle.class_code.specs.declared.instr.Conversion.TheVariants as conversion
 use Rattle.class_code.specs.declared.instr.Condition.TheVariants as condition
 use Rattle.class_code.specs.declared.instr.Branch.{Branch}
@@ -30,77 +22,37 @@ use Rattle.class_code.specs.declared.instr.PoolOp.TheVariants as pool_op
 use Rattle.std.specs.Prelude.{not, ◌&&◌, ◌||◌, IsTrue, find, is_some, unwrap_or, Option, Some, None}
 use Rattle.std.specs.List.{list_all}
 use Rattle.std.proofs.lemmas.Bool.{cases_lt, eqb-true}
-use Rattle.class_code.specs.Codes.{kind_place, width_place, slot_place, element_place, int_const_code, long_const_code, stack_code, arithmetic_code, conversion_code, branch_code, pool_code, simple_code}
+use Rattle.class_code.specs.Codes.{kind_place, branch_code, pool_code, simple_code}
 use Rattle.class_code.specs.Forms.{is_floating, is_unsupported, IsForm}
 use Rattle.class_code.specs.FormSearch.{forms, form_code, form_at}
 
 -- ---- the opcode of each of them begins that form; a last case stands for all that are left
 
-int_const_again : (n : IntConst) → form_at (int_const_code n) ≡ form.Simple (simple.ConstInt n)
-unfolding form_at
-int_const_again int_const.MinusOne = refl
-int_const_again n = refl
-
-long_const_again : (n : LongConst) → form_at (long_const_code n) ≡ form.Simple (simple.ConstLong n)
-unfolding form_at
-long_const_again long_const.Zero = refl
-long_const_again n = refl
-
-load_slot_again : (k : Kind) (s : Slot) → form_at (0x1a + 4 * kind_place k + slot_place s) ≡ form.Simple (simple.Load k s)
-unfolding form_at
-load_slot_again kind.Int slot.Zero = refl
-load_slot_again k slot.Zero = refl
-load_slot_again k s = refl
-
-store_slot_again : (k : Kind) (s : Slot) → form_at (0x3b + 4 * kind_place k + slot_place s) ≡ form.Simple (simple.Store k s)
-unfolding form_at
-store_slot_again kind.Int slot.Zero = refl
-store_slot_again k slot.Zero = refl
-store_slot_again k s = refl
-
-array_load_again : (e : Element) → form_at (0x2e + element_place e) ≡ form.Simple (simple.ArrayLoad e)
-unfolding form_at
-array_load_again element.Int = refl
-array_load_again e = refl
-
-array_store_again : (e : Element) → form_at (0x4f + element_place e) ≡ form.Simple (simple.ArrayStore e)
-unfolding form_at
-array_store_again element.Int = refl
-array_store_again e = refl
-
-stack_again : (o : StackOp) → form_at (stack_code o) ≡ form.Simple (simple.Stack o)
-unfolding form_at
-stack_again stack_op.Pop = refl
-stack_again o = refl
-
-arithmetic_again : (o : Arithmetic) (w : Width) → form_at (arithmetic_code o + width_place w) ≡ form.Simple (simple.Arithmetic o w)
-unfolding form_at
-arithmetic_again arithmetic.Add width.Int = refl
-arithmetic_again o width.Int = refl
-arithmetic_again o w = refl
-
-conversion_again : (c : Conversion) → form_at (conversion_code c) ≡ form.Simple (simple.Convert c)
-unfolding form_at
-conversion_again conversion.IntToLong = refl
-conversion_again c = refl
-
-return_again : (k : Kind) → form_at (0xac + kind_place k) ≡ form.Simple (simple.Return k)
-unfolding form_at
-return_again kind.Int = refl
-return_again k = refl
-
 pub simple_again : (s : Simple) → form_at (simple_code s) ≡ form.Simple s
 unfolding form_at
-simple_again (simple.ConstInt n) = int_const_again n
-simple_again (simple.ConstLong n) = long_const_again n
-simple_again (simple.Load k s) = load_slot_again k s
-simple_again (simple.Store k s) = store_slot_again k s
-simple_again (simple.ArrayLoad e) = array_load_again e
-simple_again (simple.ArrayStore e) = array_store_again e
-simple_again (simple.Stack o) = stack_again o
-simple_again (simple.Arithmetic o w) = arithmetic_again o w
-simple_again (simple.Convert c) = conversion_again c
-simple_again (simple.Return k) = return_again k
+simple_again (simple.ConstInt int_const.MinusOne) = refl
+simple_again (simple.ConstInt n) = refl
+simple_again (simple.ConstLong long_const.Zero) = refl
+simple_again (simple.ConstLong n) = refl
+simple_again (simple.Load kind.Int slot.Zero) = refl
+simple_again (simple.Load k slot.Zero) = refl
+simple_again (simple.Load k s) = refl
+simple_again (simple.Store kind.Int slot.Zero) = refl
+simple_again (simple.Store k slot.Zero) = refl
+simple_again (simple.Store k s) = refl
+simple_again (simple.ArrayLoad element.Int) = refl
+simple_again (simple.ArrayLoad e) = refl
+simple_again (simple.ArrayStore element.Int) = refl
+simple_again (simple.ArrayStore e) = refl
+simple_again (simple.Stack stack_op.Pop) = refl
+simple_again (simple.Stack o) = refl
+simple_again (simple.Arithmetic arithmetic.Add width.Int) = refl
+simple_again (simple.Arithmetic o width.Int) = refl
+simple_again (simple.Arithmetic o w) = refl
+simple_again (simple.Convert conversion.IntToLong) = refl
+simple_again (simple.Convert c) = refl
+simple_again (simple.Return kind.Int) = refl
+simple_again (simple.Return k) = refl
 simple_again s = refl
 
 pub branch_again : (c : Branch) → form_at (branch_code c) ≡ form.Branch c
@@ -158,48 +110,22 @@ not_both false b e h = absurd cc
 pub form_is : (b : ℕ) (f : Form) → b < 256 → IsForm b f → form_at b ≡ f
 unfolding form_at
 form_is b (form.Simple s) lt e = rw e (simple_again s)
-form_is b form.PushByte lt e = rw e refl
-form_is b form.PushShort lt e = rw e refl
-form_is b form.LoadConst lt e = rw e refl
 form_is b (form.Load k) lt e = rw e (load_again k)
 form_is b (form.Store k) lt e = rw e (store_again k)
-form_is b form.Increment lt e = rw e refl
 form_is b (form.Branch c) lt e = rw e (branch_again c)
-form_is b form.GotoWide lt e = rw e refl
-form_is b form.TableSwitch lt e = rw e refl
-form_is b form.LookupSwitch lt e = rw e refl
 form_is b (form.Pool o) lt e = rw e (pool_again o)
-form_is b form.InvokeInterface lt e = rw e refl
-form_is b form.NewArray lt e = rw e refl
-form_is b form.MultiNewArray lt e = rw e refl
-form_is b form.Wide lt e = rw e refl
 form_is b form.Floating lt e =
     let other : is_unsupported b ≡ false = not_both (is_floating b) (is_unsupported b) (at_each apart 256 b all_apart lt) e in
     rw (other, e) refl
-form_is b form.Unsupported lt e = rw e refl
+form_is b f lt e = rw e refl
 
 -- ---- each byte has the form that the table gives it
 
 -- the opcode of a form begins it
 of_code : (b : ℕ) (f : Form) → b < 256 → form_code f ≡ b → IsForm b f
-of_code b (form.Simple s) lt e = sym e
-of_code b form.PushByte lt e = sym e
-of_code b form.PushShort lt e = sym e
-of_code b form.LoadConst lt e = sym e
-of_code b (form.Load k) lt e = sym e
-of_code b (form.Store k) lt e = sym e
-of_code b form.Increment lt e = sym e
-of_code b (form.Branch c) lt e = sym e
-of_code b form.GotoWide lt e = sym e
-of_code b form.TableSwitch lt e = sym e
-of_code b form.LookupSwitch lt e = sym e
-of_code b (form.Pool o) lt e = sym e
-of_code b form.InvokeInterface lt e = sym e
-of_code b form.NewArray lt e = sym e
-of_code b form.MultiNewArray lt e = sym e
-of_code b form.Wide lt e = sym e
 of_code b form.Floating lt e = absurd (omega (arith, e))
 of_code b form.Unsupported lt e = absurd (omega (arith, e))
+of_code b f lt e = sym e
 
 -- what a search finds passes its test
 at_first : {X : Type 0} (test : X → Bool) (x y : X) (others : Option X) (t : Bool) → test y ≡ t → (others ≡ Some x → test x ≡ true) → cond t (Some y) others ≡ Some x → test x ≡ true
