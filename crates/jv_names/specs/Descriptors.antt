@@ -14,12 +14,13 @@ use Rattle.jv_names.specs.Names.{Name, is_class_name}
 
 -- ---- the types that descriptors spell
 
--- one that the code's types keep, and the two that they lack
+-- what a type is without its dimensions: one of the profile, or one of floating point
 pub data AnyElement : Type 0 where
   Kept : ElementType → AnyElement
   Float : AnyElement
   Double : AnyElement
 
+-- an element under so many dimensions
 pub record AnyType : Type 0 where
   pub dimensions : ℕ
   pub element : AnyElement
@@ -47,22 +48,22 @@ element_text (Kept element) = kept_text element
 element_text Float = 70 ∷ []
 element_text Double = 68 ∷ []
 
--- a `[` for each dimension
+-- section 4.3.2: a `[` for each dimension
 abbrev pub type_text : AnyType → Name
 type_text t = replicate t.dimensions 91 ++ element_text t.element
 
--- `V` for void
+-- section 4.3.3: `V` for void
 abbrev pub result_text : Option AnyType → Name
 result_text None = 86 ∷ []
 result_text (Some t) = type_text t
 
--- `(` parameters `)` result
+-- section 4.3.3: `(` parameters `)` result
 abbrev pub method_text : AnyMethod → Name
 method_text m = 40 ∷ flat_map type_text m.parameters ++ 41 ∷ result_text m.result
 
 -- ---- class names and floating point in them
 
--- a class is named by a class name
+-- section 4.2.1: a class is named by a class name
 abbrev pub IsNamed : AnyElement → Type 0
 IsNamed (Kept (Class name)) = IsTrue (is_class_name name)
 IsNamed element = Unit {0}
