@@ -23,8 +23,8 @@ use Rattle.std.specs.Prelude.{not, ◌&&◌, ◌||◌, IsTrue, find, is_some, un
 use Rattle.std.specs.List.{list_all}
 use Rattle.std.proofs.lemmas.Bool.{cases_lt, eqb-true}
 use Rattle.class_code.specs.Codes.{kind_place, branch_code, pool_code, simple_code}
-use Rattle.class_code.specs.Forms.{is_floating, is_unsupported, IsForm}
-use Rattle.class_code.specs.FormSearch.{forms, form_code, form_at}
+use Rattle.class_code.specs.Forms.{is_floating, is_unsupported, form_code, IsForm}
+use Rattle.class_code.specs.FormSearch.{forms, form_at}
 
 -- ---- the opcode of each of them begins that form; a last case stands for all that are left
 

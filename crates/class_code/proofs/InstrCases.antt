@@ -27,7 +27,7 @@ use Rattle.class_code.proofs.FormAt.{form_found}
 use Rattle.class_code.proofs.Numbers.{le_false}
 use Rattle.class_code.proofs.ReadBack.{read_again, not_done, done_is, failed_is}
 use Rattle.class_code.proofs.FaultBack.{IsBytes, fault_again}
-use Rattle.class_code.proofs.OperandCases.{two, u1_or_cut, s1_or_cut, u2_or_cut, s2_or_cut, s4_or_cut, s4_of, padding_of, words_or_cut, pairs_or_fault, primitive_or_fault}
+use Rattle.class_code.proofs.OperandCases.{u2_back, u1_or_cut, s1_or_cut, u2_or_cut, s2_or_cut, s4_or_cut, s4_of, padding_of, words_or_cut, pairs_or_fault, primitive_or_fault}
 use Rattle.class_code.proofs.LenLaws.{made, made_table, made_lookup, skips_table, skips_lookup, positive}
 
 -- a whole instruction, or what is a fault at this opcode
@@ -132,7 +132,7 @@ interface_case at (a ∷ b ∷ c ∷ []) fits = inr (instr_fault.Truncated, (ref
 interface_case at (a ∷ b ∷ c ∷ d ∷ bytes) fits = elim (eqb_tells d 0) [
   | inr (test, other) ↦ inr (instr_fault.BadOperand, (refl, other))
   | inl (test, none) ↦
-      let both = two a b (c ∷ d ∷ bytes) fits in
+      let both = u2_back a b (c ∷ d ∷ bytes) fits in
       let index : ℕ = from_be_bytes w16 (a ∷ b ∷ []) in
       whole at 0xb9 form.InvokeInterface (a ∷ b ∷ c ∷ d ∷ bytes) bytes (instr.InvokeInterface index c) (both.0, fits.1.1.0) tt
       (ap (λ (n : ℕ). 0xb9 ∷ a ∷ b ∷ c ∷ n ∷ bytes) none ∙ ap (λ (front : List ℕ). 0xb9 ∷ front ++ c ∷ 0 ∷ bytes) (sym both.1))

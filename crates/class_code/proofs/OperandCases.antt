@@ -40,14 +40,14 @@ pub s1_or_cut : (bytes : List ℕ) → IsBytes bytes → Whole s1 (FitsSigned w8
 s1_or_cut [] fits = inr (lit< tt)
 s1_or_cut (a ∷ bytes) fits = inl (cast_signed w8 a, bytes, ap (λ (n : ℕ). n ∷ bytes) (sym (of_z-to_z w8 a fits.0)), sfits_to_z (record { fits = fits.0 }), omega arith, fits.1)
 
-pub two : (a b : ℕ) (bytes : List ℕ) → IsBytes (a ∷ b ∷ bytes) → (from_be_bytes w16 (a ∷ b ∷ []) < 2 ^ 16) × (u2 (from_be_bytes w16 (a ∷ b ∷ [])) ≡ a ∷ b ∷ [])
-two a b bytes fits = (omega (arith, fits.0, fits.1.0), be_bytes_2 (a ∷ b ∷ []) (from_be_bytes w16 (a ∷ b ∷ [])) refl (each_fits (a ∷ b ∷ []) (fits.0, (fits.1.0, tt))) refl)
+pub u2_back : (a b : ℕ) (bytes : List ℕ) → IsBytes (a ∷ b ∷ bytes) → (from_be_bytes w16 (a ∷ b ∷ []) < 2 ^ 16) × (u2 (from_be_bytes w16 (a ∷ b ∷ [])) ≡ a ∷ b ∷ [])
+u2_back a b bytes fits = (omega (arith, fits.0, fits.1.0), be_bytes_2 (a ∷ b ∷ []) (from_be_bytes w16 (a ∷ b ∷ [])) refl (each_fits (a ∷ b ∷ []) (fits.0, (fits.1.0, tt))) refl)
 
 pub u2_or_cut : (bytes : List ℕ) → IsBytes bytes → Whole u2 (λ n. n < 2 ^ 16) 2 bytes ⊎ (length bytes < 2)
 u2_or_cut [] fits = inr (lit< tt)
 u2_or_cut (a ∷ []) fits = inr (lit< tt)
 u2_or_cut (a ∷ b ∷ bytes) fits =
-    let both = two a b bytes fits in
+    let both = u2_back a b bytes fits in
     inl (from_be_bytes w16 (a ∷ b ∷ []), bytes, ap (λ (front : List ℕ). front ++ bytes) (sym both.1), both.0, omega arith, fits.1.1)
 
 pub s2_or_cut : (bytes : List ℕ) → IsBytes bytes → Whole s2 (FitsSigned w16) 2 bytes ⊎ (length bytes < 2)
@@ -55,13 +55,13 @@ s2_or_cut [] fits = inr (lit< tt)
 s2_or_cut (a ∷ []) fits = inr (lit< tt)
 s2_or_cut (a ∷ b ∷ bytes) fits =
     let n : ℕ = from_be_bytes w16 (a ∷ b ∷ []) in
-    let both = two a b bytes fits in
+    let both = u2_back a b bytes fits in
     let again : s2 (cast_signed w16 n) ≡ a ∷ b ∷ [] = ap u2 (of_z-to_z w16 n both.0) ∙ both.1 in
     inl (cast_signed w16 n, bytes, ap (λ (front : List ℕ). front ++ bytes) (sym again), sfits_to_z (record { fits = both.0 }), omega arith, fits.1.1)
 
-four : (a b c d : ℕ) → IsBytes (a ∷ b ∷ c ∷ d ∷ []) → (from_be_bytes w32 (a ∷ b ∷ c ∷ d ∷ []) < 2 ^ 32) × (s4 (cast_signed w32 (from_be_bytes w32 (a ∷ b ∷ c ∷ d ∷ []))) ≡ a ∷ b ∷ c ∷ d ∷ [])
+s4_back : (a b c d : ℕ) → IsBytes (a ∷ b ∷ c ∷ d ∷ []) → (from_be_bytes w32 (a ∷ b ∷ c ∷ d ∷ []) < 2 ^ 32) × (s4 (cast_signed w32 (from_be_bytes w32 (a ∷ b ∷ c ∷ d ∷ []))) ≡ a ∷ b ∷ c ∷ d ∷ [])
 unfolding s4
-four a b c d fits =
+s4_back a b c d fits =
     let n : ℕ = from_be_bytes w32 (a ∷ b ∷ c ∷ d ∷ []) in
     let small : n < 2 ^ 32 = omega (arith, fits.0, fits.1.0, fits.1.1.0, fits.1.1.1.0) in
     (small, ap (λ (m : ℕ). to_be_bytes w32 m) (of_z-to_z w32 n small) ∙ be_bytes_4 (a ∷ b ∷ c ∷ d ∷ []) n refl (each_fits (a ∷ b ∷ c ∷ d ∷ []) fits) refl)
@@ -72,7 +72,7 @@ s4_or_cut (a ∷ []) fits = inr (lit< tt)
 s4_or_cut (a ∷ b ∷ []) fits = inr (lit< tt)
 s4_or_cut (a ∷ b ∷ c ∷ []) fits = inr (lit< tt)
 s4_or_cut (a ∷ b ∷ c ∷ d ∷ bytes) fits =
-    let both = four a b c d (fits.0, (fits.1.0, (fits.1.1.0, (fits.1.1.1.0, tt)))) in
+    let both = s4_back a b c d (fits.0, (fits.1.0, (fits.1.1.0, (fits.1.1.1.0, tt)))) in
     inl (cast_signed w32 (from_be_bytes w32 (a ∷ b ∷ c ∷ d ∷ [])), bytes, ap (λ (front : List ℕ). front ++ bytes) (sym both.1), sfits_to_z (record { fits = both.0 }), omega arith, fits.1.1.1.1)
 
 -- where there are enough bytes

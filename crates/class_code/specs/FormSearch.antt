@@ -1,6 +1,6 @@
 -- The form of an opcode as a function: the form, of all that there are, whose opcode it is (JVM specification 6.5 and 7). That it
 -- is the one form that an opcode begins (`Forms`) is proved.
-use Rattle.std.specs.Prelude.{ℕ, ◌+◌, ◌==◌, cond, List, [], ◌∷◌, ◌++◌, map, find, unwrap_or}
+use Rattle.std.specs.Prelude.{ℕ, ◌==◌, cond, List, [], ◌∷◌, ◌++◌, map, find, unwrap_or}
 use Rattle.std.specs.List.{flat_map}
 use Rattle.class_code.specs.declared.form.Form.{Form}
 use Rattle.class_code.specs.declared.form.Form.TheVariants as form
@@ -30,8 +30,7 @@ use Rattle.class_code.specs.declared.instr.Branch.{Branch}
 use Rattle.class_code.specs.declared.instr.Branch.TheVariants as branch
 use Rattle.class_code.specs.declared.instr.PoolOp.{PoolOp}
 use Rattle.class_code.specs.declared.instr.PoolOp.TheVariants as pool_op
-use Rattle.class_code.specs.Codes.{kind_place, branch_code, pool_code, simple_code}
-use Rattle.class_code.specs.Forms.{is_floating, is_unsupported}
+use Rattle.class_code.specs.Forms.{is_floating, is_unsupported, form_code}
 
 -- ---- all forms whose opcode is theirs alone
 
@@ -84,27 +83,6 @@ forms =
     form.PushByte ∷ form.PushShort ∷ form.LoadConst ∷ form.Increment ∷ form.GotoWide ∷ form.TableSwitch ∷ form.LookupSwitch ∷ form.InvokeInterface ∷ form.NewArray
     ∷ form.MultiNewArray ∷ form.Wide ∷ [] ++ map (λ k. form.Load k) kinds ++ map (λ k. form.Store k) kinds ++ map (λ c. form.Branch c) branches ++ map (λ o. form.Pool o) pool_ops
     ++ map (λ s. form.Simple s) simples
-
--- that opcode, and for the other forms no byte
-abbrev pub form_code : Form → ℕ
-form_code (form.Simple s) = simple_code s
-form_code form.PushByte = 0x10
-form_code form.PushShort = 0x11
-form_code form.LoadConst = 0x12
-form_code (form.Load k) = 0x15 + kind_place k
-form_code (form.Store k) = 0x36 + kind_place k
-form_code form.Increment = 0x84
-form_code (form.Branch c) = branch_code c
-form_code form.GotoWide = 0xc8
-form_code form.TableSwitch = 0xaa
-form_code form.LookupSwitch = 0xab
-form_code (form.Pool o) = pool_code o
-form_code form.InvokeInterface = 0xb9
-form_code form.NewArray = 0xbc
-form_code form.MultiNewArray = 0xc5
-form_code form.Wide = 0xc4
-form_code form.Floating = 256
-form_code form.Unsupported = 256
 
 -- what an opcode begins
 unfoldable pub form_at : ℕ → Form

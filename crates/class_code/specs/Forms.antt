@@ -24,23 +24,29 @@ is_floating b = list_any (lies_in b) floating
 abbrev pub is_unsupported : ℕ → Bool
 is_unsupported b = list_any (lies_in b) unsupported
 
+-- the opcode of each form that has one of its own; no byte is 256
+abbrev pub form_code : Form → ℕ
+form_code (form.Simple s) = simple_code s
+form_code form.PushByte = 0x10
+form_code form.PushShort = 0x11
+form_code form.LoadConst = 0x12
+form_code (form.Load k) = 0x15 + kind_place k
+form_code (form.Store k) = 0x36 + kind_place k
+form_code form.Increment = 0x84
+form_code (form.Branch c) = branch_code c
+form_code form.GotoWide = 0xc8
+form_code form.TableSwitch = 0xaa
+form_code form.LookupSwitch = 0xab
+form_code (form.Pool o) = pool_code o
+form_code form.InvokeInterface = 0xb9
+form_code form.NewArray = 0xbc
+form_code form.MultiNewArray = 0xc5
+form_code form.Wide = 0xc4
+form_code form.Floating = 256
+form_code form.Unsupported = 256
+
 -- the opcode begins an instruction of this form
 abbrev pub IsForm : ℕ → Form → Type 0
-IsForm b (form.Simple s) = b ≡ simple_code s
-IsForm b form.PushByte = b ≡ 0x10
-IsForm b form.PushShort = b ≡ 0x11
-IsForm b form.LoadConst = b ≡ 0x12
-IsForm b (form.Load k) = b ≡ 0x15 + kind_place k
-IsForm b (form.Store k) = b ≡ 0x36 + kind_place k
-IsForm b form.Increment = b ≡ 0x84
-IsForm b (form.Branch c) = b ≡ branch_code c
-IsForm b form.GotoWide = b ≡ 0xc8
-IsForm b form.TableSwitch = b ≡ 0xaa
-IsForm b form.LookupSwitch = b ≡ 0xab
-IsForm b (form.Pool o) = b ≡ pool_code o
-IsForm b form.InvokeInterface = b ≡ 0xb9
-IsForm b form.NewArray = b ≡ 0xbc
-IsForm b form.MultiNewArray = b ≡ 0xc5
-IsForm b form.Wide = b ≡ 0xc4
 IsForm b form.Floating = IsTrue (is_floating b)
 IsForm b form.Unsupported = IsTrue (is_unsupported b)
+IsForm b f = b ≡ form_code f

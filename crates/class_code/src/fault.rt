@@ -4,7 +4,7 @@ use std::alloc::{AllocError, AllocFailed};
 use thiserror::Error;
 
 /// Why no instruction begins at a place. `CodeFault` says more of each.
-#[derive(Clone, Copy, Debug, PartialEq, Eq, Error)]
+#[derive(Clone, Copy, Debug, Error)]
 pub enum InstrFault {
     /// It is one of `float` or `double`.
     #[error("an instruction of float or double")]
@@ -21,7 +21,7 @@ pub enum InstrFault {
 }
 
 /// Why an instruction was not read.
-#[derive(Clone, Copy, Debug, PartialEq, Eq, Error)]
+#[derive(Clone, Copy, Debug, Error)]
 pub enum Unread {
     /// Memory ran out, which says nothing of the bytes.
     #[error("out of memory")]
