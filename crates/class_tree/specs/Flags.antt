@@ -1,5 +1,5 @@
 -- Access flags: JVM specification 4.1, 4.5 and 4.6.
-use Rattle.std.specs.Prelude.{◌≡◌, ℕ, ◌/◌, ◌%◌}
+use Rattle.std.specs.Prelude.{◌≡◌, ℕ, ◌/◌, ◌%◌, Bool, ◌==◌}
 use Rattle.class_tree.specs.declared.access.Flag.{Flag}
 use Rattle.class_tree.specs.declared.access.Flag.TheVariants.{Public, Private, Protected, Static, Final, Super, Synchronized, Volatile, Bridge, Transient, Varargs, Native, Interface, Abstract, Strict, Synthetic, Annotation, Enum}
 
@@ -27,3 +27,6 @@ bit_of Enum = 0x4000
 -- the bit of a flag is set
 abbrev pub HasFlag : ℕ → Flag → Type 0
 HasFlag bits flag = bits / bit_of flag % 2 ≡ 1
+
+abbrev pub has_flag : ℕ → Flag → Bool
+has_flag bits flag = bits / bit_of flag % 2 == 1

@@ -1,2 +1,10 @@
 pub mod Flags
 pub mod Tree
+pub mod Trees
+pub mod Ranges
+pub mod Spelling
+pub mod PoolRules
+pub mod FrameRules
+pub mod CodeRules
+pub mod WellFormed
+pub mod FileTrees

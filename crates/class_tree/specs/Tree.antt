@@ -1,7 +1,7 @@
 -- Look-ups in the tree of a class file: JVM specification, chapter 4.
-use Rattle.std.specs.Prelude.{◌≡◌, ℕ, ◌-◌, ◌==◌, Bool, false, ◌&&◌, if◌then◌else◌, List, [], ◌∷◌, Option, Some, None, slice_get, bytes_eq}
+use Rattle.std.specs.Prelude.{◌≡◌, ℕ, ◌-◌, ◌==◌, Bool, true, false, ◌&&◌, if◌then◌else◌, List, [], ◌∷◌, Option, Some, None, slice_get, bytes_eq}
 use Rattle.std.specs.Option.{option_or, option_and_then, option_zip}
-use Rattle.jv_names.specs.Names.{Name}
+use Rattle.jv_names.specs.Names.{Name, is_class_name}
 use Rattle.class_tree.specs.declared.pool.Const.{Const}
 use Rattle.class_tree.specs.declared.pool.Const.TheVariants.{Utf8, Class, NameType}
 use Rattle.class_tree.specs.declared.frames.StackMapFrame.{StackMapFrame}
@@ -34,6 +34,18 @@ class_of pool _ = None
 
 abbrev pub class_at : List Const → ℕ → Option Name
 class_at pool index = option_and_then (class_of pool) (entry_at pool index)
+
+-- a class, also one of an array
+abbrev pub is_class : Option Const → Bool
+is_class (Some (Class name)) = true
+is_class entry = false
+
+abbrev pub names_class : List Const → ℕ → Bool
+names_class pool index = is_class (entry_at pool index)
+
+-- a class that is no array
+abbrev pub names_plain_class : List Const → ℕ → Bool
+names_plain_class pool index = elim (class_at pool index) [ None ↦ false | Some name ↦ is_class_name name ]
 
 -- the name and the descriptor of an entry: section 4.4.6
 abbrev pub name_type_of : List Const → Const → Option (Name × Name)

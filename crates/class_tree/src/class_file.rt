@@ -1,13 +1,20 @@
-ghost use Rattle.std.specs.Prelude.{◌≡◌, ◌↔◌, IsTrue, IfSome, IsNone, Some, option_map, option_copied, position, All};
+ghost use Rattle.std.specs.Prelude.{◌≡◌, ◌↔◌, true, IsTrue, IfSome, IsNone, Some, option_map, option_copied, position, All};
 ghost use Rattle.class_tree.specs.Tree.{entry_at, text_at, class_at, name_type_at, is_named, IsNamed, IsNamedAt};
+ghost use Rattle.class_tree.specs.WellFormed.{is_well_formed};
 
-use crate::{Attr, CloneIn, Const, Flags, Member, Same};
+use crate::{Attr, CloneIn, Const, Flags, Member, Same, pool};
 use jv_names::Units;
 use sqlite_items::Items;
 use std::alloc::{AllocError, Global};
+use std::marker::Model;
 
 /// A class or an interface: a `ClassFile` (4.1), without its magic number and its counts. An index of the pool is the
 /// number of an entry as the file has it: the first entry has the number 1, and no entry the number 0.
+///
+/// Each value is well-formed: its numbers are in their ranges, its indices name what they must, and its names, descriptors,
+/// codes and attributes are as the standard says for versions 50 to 52, without floating point, native methods, method
+/// handles and `invokedynamic`. The superclass may be wanting, as `Object`'s is. Access flags, and where the entries of a
+/// stack map lie, are not looked at.
 #[derive(Drop)]
 pub struct ClassFile {
     /// The minor number of the format's version.
@@ -28,35 +35,40 @@ pub struct ClassFile {
     pub attrs: Items<Attr>,
 }
 
+impl Model for ClassFile {
+    ghost use Rattle.std.specs.Prelude.{IsTrue};
+    ghost use Rattle.class_tree.specs.Trees.{Tree};
+
+    ghost Value = { Tree };
+
+    ghost use Rattle.class_tree.specs.FileTrees.{tree_of};
+    ghost use Rattle.class_tree.specs.WellFormed.{is_well_formed};
+
+    ghost view = { tree_of };
+
+    ghost invariant = { λ f. IsTrue (is_well_formed (tree_of f)) };
+}
+
 impl ClassFile {
     /// The entry of the pool at an index.
     pub fn entry_at(&self, index: u16) -> Option<&Const>
         ensures { option_copied result ≡ entry_at self.now.pool index }
     {
-        if index == 0 {
-            return None;
-        }
-        self.pool.get(usize::from(index) - 1)
+        pool::entry_at(self.pool.as_slice(), index)
     }
 
     /// The text at an index of the pool, where a `Utf8` is there.
     pub fn text_at(&self, index: u16) -> Option<&Units>
         ensures { option_copied result ≡ text_at self.now.pool index }
     {
-        match self.entry_at(index)? {
-            Const::Utf8(text) => Some(text),
-            _ => None,
-        }
+        pool::text_at(self.pool.as_slice(), index)
     }
 
     /// What the `Class` at an index of the pool names (4.4.1): a name in internal form, or the descriptor of an array class.
     pub fn class_at(&self, index: u16) -> Option<&Units>
         ensures { option_copied result ≡ class_at self.now.pool index }
     {
-        match self.entry_at(index)? {
-            Const::Class(name) => self.text_at(*name),
-            _ => None,
-        }
+        pool::class_at(self.pool.as_slice(), index)
     }
 
     /// The name and the descriptor of the `NameType` at an index of the pool.
@@ -71,7 +83,10 @@ impl ClassFile {
 
     /// The class's own name in internal form.
     pub fn name(&self) -> Option<&Units>
-        ensures { option_copied result ≡ class_at self.now.pool self.now.this_class }
+        ensures named { option_copied result ≡ class_at self.now.pool self.now.this_class }
+
+        // As each class is.
+        ensures well_formed { is_well_formed self.now ≡ true }
     {
         self.class_at(self.this_class)
     }

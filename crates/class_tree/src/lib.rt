@@ -19,5 +19,5 @@ pub use class_file::ClassFile;
 pub use compare::Same;
 pub use copies::CloneIn;
 pub use frames::{Appended, Chopped, ShortDelta, StackMapFrame, VerificationType};
-pub use members::{Attr, Member};
-pub use pool::Const;
+pub use members::{Attr, Member, MemberKind};
+pub use pool::{Const, class_at, entry_at, names_class, text_at};

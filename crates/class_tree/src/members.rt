@@ -5,6 +5,13 @@ use crate::{CloneIn, Code, Flags, Same};
 use sqlite_items::Items;
 use std::alloc::{AllocError, Global};
 
+/// Which of the two a member is, a name and a descriptor are of, or a pair of both is of.
+#[derive(Clone, Copy)]
+pub enum MemberKind {
+    Field,
+    Method,
+}
+
 /// A field or a method: a `field_info` (4.5) or a `method_info` (4.6).
 #[derive(Drop)]
 pub struct Member {

@@ -1,3 +1,6 @@
+ghost use Rattle.std.specs.Prelude.{◌≡◌, option_copied};
+ghost use Rattle.class_tree.specs.Tree.{entry_at, text_at, class_at, names_class};
+
 use crate::{CloneIn, Same};
 use jv_names::Units;
 use std::alloc::{AllocError, Global};
@@ -63,4 +66,41 @@ impl CloneIn for Const {
             Self::Unused => Self::Unused,
         })
     }
+}
+
+/// The entry of a pool at an index.
+pub fn entry_at(pool: &[Const], index: u16) -> Option<&Const>
+    ensures { option_copied result ≡ entry_at pool.now index }
+{
+    if index == 0 {
+        return None;
+    }
+    pool.get(usize::from(index) - 1)
+}
+
+/// The text at an index of a pool, where a `Utf8` is there.
+pub fn text_at(pool: &[Const], index: u16) -> Option<&Units>
+    ensures { option_copied result ≡ text_at pool.now index }
+{
+    match entry_at(pool, index)? {
+        Const::Utf8(text) => Some(text),
+        _ => None,
+    }
+}
+
+/// What the `Class` at an index of a pool names (4.4.1): a name in internal form, or the descriptor of an array class.
+pub fn class_at(pool: &[Const], index: u16) -> Option<&Units>
+    ensures { option_copied result ≡ class_at pool.now index }
+{
+    match entry_at(pool, index)? {
+        Const::Class(name) => text_at(pool, *name),
+        _ => None,
+    }
+}
+
+/// Whether a class stands at an index of a pool, be it one of an array (4.4.1).
+pub fn names_class(pool: &[Const], index: u16) -> bool
+    ensures { result ≡ names_class pool.now index }
+{
+    matches!(entry_at(pool, index), Some(Const::Class(_)))
 }

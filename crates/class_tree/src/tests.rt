@@ -1,8 +1,8 @@
 ghost use Rattle.std.specs.Prelude.{◌<◌, ◌^◌};
 
 use crate::{
-    Appended, Attr, Chopped, ClassFile, CloneIn, Code, CodeAttr, Const, Flag, Flags, Handler,
-    Member, Same, ShortDelta, StackMapFrame, VerificationType,
+    Appended, Attr, Chopped, CloneIn, Code, CodeAttr, Const, Flag, Flags, Handler, Member, Same,
+    ShortDelta, StackMapFrame, VerificationType,
 };
 use jv_names::Units;
 use sqlite_items::Items;
@@ -56,7 +56,7 @@ fn pool(alloc: Global) -> Result<Items<Const>, AllocError> {
     Ok(Items::from_vec(pool))
 }
 
-/// Which number of a tree is one more than in `sample`; 0 is none.
+/// Which number of a member is one more than in `methods` and `fields`; 0 is none.
 #[derive(Clone, Copy)]
 struct Change {
     at: usize,
@@ -76,8 +76,8 @@ impl Change {
     }
 }
 
-/// How many numbers of `sample` a change may be at, from 1 on.
-const PLACES: usize = 27;
+/// How many numbers of `methods` and `fields` a change may be at, from 1 on.
+const PLACES: usize = 19;
 
 /// A code with a handler, a raw attribute, and two stack maps, of which the second is empty.
 fn code(alloc: Global, change: Change, max_stack: u16) -> Result<Code, AllocError>
@@ -164,121 +164,23 @@ fn fields(alloc: Global, change: Change) -> Result<Items<Member>, AllocError> {
     Ok(Items::from_vec(vec![in alloc; stream, number]?))
 }
 
-/// The class `Add` with members to look up, and one of its numbers changed.
-fn sample(alloc: Global, change: Change) -> Result<ClassFile, AllocError> {
-    let mut pool = pool(alloc)?;
-    pool.push(Const::Class(change.number(20, 1)))?;
-    let raw = Attr::Raw {
-        name: change.number(21, 16),
-        bytes: Items::new(alloc),
-    };
-    Ok(ClassFile {
-        minor: change.number(22, 0),
-        major: change.number(23, 52),
-        pool,
-        flags: Flags {
-            bits: change.number(24, 0x0021),
-        },
-        this_class: change.number(25, 2),
-        super_class: change.number(26, 4),
-        interfaces: Items::from_slice(alloc, &[change.number(27, 15)])?,
-        fields: fields(alloc, change)?,
-        methods: methods(alloc, change)?,
-        attrs: Items::from_vec(vec![in alloc; raw]?),
-    })
-}
-
-/// Whether a text was found, and is this one; the empty text stands for none.
-fn is(found: Option<&Units>, text: &str) -> bool {
-    match found {
-        Some(units) => units.is_text(text.as_bytes()),
-        None => text.is_empty(),
-    }
-}
-
-/// Indices with the text and the class's name that `javap -v` shows there.
-#[test]
-fn looks_up_the_pool(rt: HostRuntime) -> Result<(), AllocError> {
-    let class = sample(rt.alloc(), Change { at: 0 })?;
-    let cases = [
-        (0, "", ""),
-        (1, "Add", ""),
-        (2, "", "Add"),
-        (9, "", "java/lang/System"),
-        (12, "", ""),
-        (17, "(I)V", ""),
-        (23, "", ""),
-        (27, "StackMapTable", ""),
-        (28, "", "Add"),
-        (29, "", ""),
-        (65535, "", ""),
-    ];
-    for (index, text, name) in cases {
-        assert!(rt; is(class.text_at(index), text), "text at {index}");
-        assert!(rt; is(class.class_at(index), name), "class at {index}");
-        assert_eq!(rt;
-            class.entry_at(index).is_some(),
-            index > 0 && index < 29,
-            "entry at {index}"
-        );
-    }
-    for (index, name, desc) in [
-        (12, "out", "Ljava/io/PrintStream;"),
-        (18, "println", "(I)V"),
-        (17, "", ""),
-    ] {
-        let found = class.name_type_at(index);
-        assert!(rt; is(found.map(|both| both.0), name), "name at {index}");
-        assert!(rt; is(found.map(|both| both.1), desc), "descriptor at {index}");
-    }
-    assert!(rt; is(class.name(), "Add"));
-    assert!(rt; is(class.super_name(), "java/lang/Object"));
-    Ok(())
-}
-
-/// Names with descriptors, and the place among the methods and among the fields at which they stand first.
-#[test]
-fn finds_members(rt: HostRuntime) -> Result<(), AllocError> {
-    let alloc = rt.alloc();
-    let class = sample(alloc, Change { at: 0 })?;
-    let cases = [
-        ("main", "([Ljava/lang/String;)V", Some(0), None),
-        ("println", "(I)V", Some(1), None),
-        ("main", "(I)V", Some(2), None),
-        ("main", "I", None, None),
-        ("out", "Ljava/io/PrintStream;", None, Some(0)),
-        ("out", "I", None, Some(1)),
-        ("", "", None, None),
-    ];
-    for (name, desc, method, field) in cases {
-        let name = Units::from_ascii(alloc, name.as_bytes())?;
-        let desc = Units::from_ascii(alloc, desc.as_bytes())?;
-        assert_eq!(rt; class.method_at(&name, &desc), method);
-        assert_eq!(rt; class.field_at(&name, &desc), field);
-    }
-    Ok(())
-}
-
-/// Of each method the depth of the stack of its first body, and of each field its descriptor and the index of its value.
+/// Of each method the depth of the stack of its first body, and of each field the index of its value.
 #[test]
 fn reads_members(rt: HostRuntime) -> Result<(), AllocError> {
-    let class = sample(rt.alloc(), Change { at: 0 })?;
+    let alloc = rt.alloc();
     let stacks = [Some(3), None, None, None];
-    for (method, max_stack) in class.methods.as_slice().iter().zip(stacks) {
+    let methods = methods(alloc, Change { at: 0 })?;
+    for (method, max_stack) in methods.as_slice().iter().zip(stacks) {
         let code = method.code();
         assert_eq!(rt; code.map(|code| code.max_stack), max_stack);
         let frames = code.and_then(|code| code.frames());
         assert_eq!(rt; frames.map(|frames| frames.len()), max_stack.map(|_| 1));
+        assert_eq!(rt; method.constant(), None);
     }
-    for (field, (desc, value)) in class
-        .fields
-        .as_slice()
-        .iter()
-        .zip([("Ljava/io/PrintStream;", None), ("I", Some(21))])
-    {
-        assert!(rt; is(class.name_of(field), "out"));
-        assert!(rt; is(class.desc_of(field), desc));
+    let fields = fields(alloc, Change { at: 0 })?;
+    for (field, value) in fields.as_slice().iter().zip([None, Some(21)]) {
         assert_eq!(rt; field.constant(), value);
+        assert!(rt; field.code().is_none());
     }
     Ok(())
 }
@@ -306,14 +208,18 @@ fn tells_flags(rt: HostRuntime) {
     }
 }
 
-/// A tree is the same as one with no change, and as none with one.
+/// Members are the same as those with no change, and as none with one.
 #[test]
 fn compares_and_copies(rt: HostRuntime) -> Result<(), AllocError> {
     let alloc = rt.alloc();
-    let copy = sample(alloc, Change { at: 0 })?.clone_in(alloc)?;
+    let copies = (
+        methods(alloc, Change { at: 0 })?.clone_in(alloc)?,
+        fields(alloc, Change { at: 0 })?.clone_in(alloc)?,
+    );
     for at in 0..=PLACES {
-        let class = sample(alloc, Change { at })?;
-        assert_eq!(rt; copy.same(&class), at == 0, "changed at {at}");
+        let same = copies.0.same(&methods(alloc, Change { at })?)
+            && copies.1.same(&fields(alloc, Change { at })?);
+        assert_eq!(rt; same, at == 0, "changed at {at}");
     }
     Ok(())
 }
