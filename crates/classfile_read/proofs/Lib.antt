@@ -1,5 +1,10 @@
-pub mod Accepted
-pub mod Placed
-pub mod Looked
-pub mod Typed
-pub mod Spelled
+pub mod AttrLaws
+pub mod MemberLaws
+pub mod DistinctLaws
+pub mod BehindLaws
+pub mod ClassLaws
+pub mod Examples
+pub mod Repeats
+pub mod MemberLists
+pub mod ClassExamples
+pub mod NeverMemory

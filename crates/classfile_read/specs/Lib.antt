@@ -1,3 +1,6 @@
-pub mod Places
-pub mod Kept
-pub mod Reads
+pub mod ClassReading
+pub mod Lawful
+pub mod Owners
+pub mod Repeats
+pub mod ClassTree
+pub mod ClassLaws

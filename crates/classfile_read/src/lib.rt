@@ -1,14 +1,13 @@
-//! Reads a class file of the one form that is accepted so far (JVM specification, chapter 4).
+//! Reads class files (Java Virtual Machine Specification, SE 8, chapter 4) of versions 50 to 52, without floating point.
 #![tactic(auto)]
 
-mod base_set;
-mod bytes;
-mod class_file;
-mod listing;
-mod read;
+mod attrs;
+mod class;
+mod laws;
+mod members;
 #[cfg(test)]
 mod tests;
-mod type_check;
 
-pub use class_file::ClassFile;
-pub use read::{ReadClassFault, read_class};
+pub use class::read_class;
+pub use class_reading::ReadClassFault;
+pub use laws::class_file_laws;

@@ -3,7 +3,7 @@ ghost use Rattle.first_form.specs.ClassFiles.{is_own_name, tree_of};
 ghost use Rattle.first_form.specs.Reading.{class_of};
 ghost use Rattle.machine_model.specs.Jobs.{AreInRange, main_tree};
 
-use classfile_read::ClassFile;
+use first_form_read::ClassFile;
 use jv_names::Units;
 use std::alloc::{AllocError, Global};
 use std::marker::Model;

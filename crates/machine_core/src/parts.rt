@@ -13,7 +13,7 @@ use crate::frame::{Frame, main_frame};
 use crate::job::Job;
 use crate::operands::Done;
 use crate::thread::{Thread, execute};
-use classfile_read::ClassFile;
+use first_form_read::ClassFile;
 use machine_model::{MachineRule, ThreadRule};
 use report_text::{ThreadLine, ThreadLines};
 use std::alloc::{AllocError, Global};

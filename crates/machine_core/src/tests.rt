@@ -2,7 +2,7 @@ ghost use Rattle.std.specs.Prelude.{◌≡◌, true, length};
 ghost use Rattle.machine_model.specs.Jobs.{AreInRange};
 
 use crate::{CoreFault, Job, Machine};
-use classfile_read::read_class;
+use first_form_read::read_class;
 use report_text::{Run, ThreadLine};
 use std::alloc::{AllocError, Global};
 use std::process::Abort;

@@ -5,8 +5,8 @@ ghost use Rattle.machine_core.specs.Frames.{FrameDone, Steps, TopDone, Executed,
 
 use crate::frame::{Frame, JavaFrame};
 use crate::operands::{Done, perform};
-use classfile_read::ClassFile;
 use first_form::Instr;
+use first_form_read::ClassFile;
 use machine_model::ThreadRule;
 use std::alloc::AllocError;
 use ti_ids::{Announced, InitState, ThreadState};

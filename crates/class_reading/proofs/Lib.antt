@@ -1,0 +1,11 @@
+pub mod BigEndian
+pub mod Many
+pub mod Laws
+pub mod NumberLaws
+pub mod ListLaws
+pub mod StepLaws
+pub mod TestLaws
+pub mod FaultLaws
+pub mod Indices
+pub mod ContentLaws
+pub mod NeverMemory

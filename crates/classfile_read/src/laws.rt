@@ -1,0 +1,29 @@
+ghost use Rattle.classfile_read.specs.ClassLaws.{OneTree, OneSpelling, IsSpelled, TreeOrFault, NotBoth, ReadBack, WrittenBack, NoMemory};
+
+/// Does nothing, and is there for its contract: the laws of the grammar of class files (chapter 4), which hold of all bytes and
+/// trees. The contracts of reading and writing speak of that grammar.
+pub fn class_file_laws()
+    // Bytes are the class file of at most one tree.
+    ensures one_tree { OneTree }
+
+    // A tree has at most one class file.
+    ensures one_spelling { OneSpelling }
+
+    // A well-formed tree with a superclass has one: what it is written as.
+    ensures spelled { IsSpelled }
+
+    // Bytes are a class file, or have a first fault.
+    ensures either { TreeOrFault }
+
+    // Bytes that have a fault are no class file.
+    ensures not_both { NotBoth }
+
+    // What is written of a well-formed tree with a superclass is read as that tree.
+    ensures read_back { ReadBack }
+
+    // What was read is written as the same bytes.
+    ensures written_back { WrittenBack }
+
+    // Reading never finds that memory ran out.
+    ensures no_memory { NoMemory }
+{}

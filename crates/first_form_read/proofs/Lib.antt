@@ -1,0 +1,5 @@
+pub mod Accepted
+pub mod Placed
+pub mod Looked
+pub mod Typed
+pub mod Spelled

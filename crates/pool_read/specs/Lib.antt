@@ -1,0 +1,3 @@
+pub mod PoolReading
+pub mod TextRoles
+pub mod Ranks

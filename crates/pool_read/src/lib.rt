@@ -1,0 +1,14 @@
+//! Reads the constant pool of a class file (Java Virtual Machine Specification, SE 8, 4.4), and looks each of its texts
+//! through once.
+#![tactic(auto)]
+
+mod entry;
+mod pool;
+mod ranks;
+mod references;
+mod roles;
+#[cfg(test)]
+mod tests;
+mod text;
+
+pub use pool::{Pool, pool_at};
