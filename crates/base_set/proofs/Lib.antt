@@ -1,0 +1,4 @@
+pub mod Named
+pub mod TreeSteps
+pub mod TreeSays
+pub mod Wholes
