@@ -1,10 +1,16 @@
 -- What words and files ask for: a job, or the first refusal. The words are `run --main NAME --class FILE`.
-use Rattle.std.specs.Prelude.{ℕ, List, [], ◌∷◌, length, Option, Some, None, Bool, true, not, ◌&&◌, nat_lt, ◌==◌, if◌then◌else◌, codes, bytes_eq}
+use Rattle.std.specs.Prelude.{ℕ, List, [], ◌∷◌, length, Option, Some, None, Bool, true, not, ◌&&◌, nat_lt, ◌==◌, if◌then◌else◌, ◌++◌, Ok, Err, codes, bytes_eq}
 use Rattle.ti_ids.specs.declared.limits.Limits.{Limits}
 use Rattle.ti_ids.specs.declared.actor.End.{End}
 use Rattle.jv_names.specs.Names.{is_class_name}
+use Rattle.class_tree.specs.Trees.{Tree}
+use Rattle.class_reading.specs.declared.fault.ReadClassFault.{ReadClassFault}
+use Rattle.class_reading.specs.declared.fault.ReadClassFault.TheVariants.{Unsupported}
+use Rattle.class_reading.specs.FaultTexts.{fault_text}
+use Rattle.class_reading.specs.Reading.{Checked}
+use Rattle.classfile_read.specs.ClassReading as grammar
 use Rattle.first_form.specs.ClassFiles.{MainClass}
-use Rattle.first_form.specs.Reading.{class_of}
+use Rattle.first_form.specs.Reading as form
 use Rattle.machine_model.specs.Jobs.{Job}
 use Rattle.machine_model.specs.Rules.{end}
 use Rattle.machine_model.specs.Replay.{state}
@@ -18,8 +24,8 @@ pub data Refusal : Type 0 where
   Absent : Refusal
   -- the file is longer than a class file may be
   TooLarge : Refusal
-  -- the file is not in the first form, or is not the main class's
-  BadClass : Refusal
+  -- the file has this fault
+  BadClass : ReadClassFault → Refusal
 
 pub data Result : Type 0 where
   Refused : Refusal → Result
@@ -59,13 +65,23 @@ class_bytes = 1048576
 abbrev pub job_of : List ℕ → List ℕ → Job
 job_of main bytes = record { main = main; classes = bytes ∷ []; donors = []; agents = []; limits = default_limits }
 
-abbrev pub result_of_class : List ℕ → List ℕ → Option MainClass → Result
-result_of_class main bytes None = Refused BadClass
-result_of_class main bytes (Some c) = if bytes_eq c.name main then Accepted (job_of main bytes) else Refused BadClass
+-- what is told of a class file that can't be run yet
+abbrev pub not_yet : ReadClassFault
+not_yet = Unsupported 0
+
+-- so far a class runs only if it is in the first form, and has the main class's name
+abbrev pub result_of_first : List ℕ → List ℕ → Option MainClass → Result
+result_of_first main bytes None = Refused (BadClass not_yet)
+result_of_first main bytes (Some c) = if bytes_eq c.name main then Accepted (job_of main bytes) else Refused (BadClass not_yet)
+
+-- the grammar's fault comes first
+abbrev pub result_of_class : List ℕ → List ℕ → Checked Tree → Option MainClass → Result
+result_of_class main bytes (Err fault) first = Refused (BadClass fault)
+result_of_class main bytes (Ok tree) first = result_of_first main bytes first
 
 abbrev pub result_of_file : List ℕ → Option (List ℕ) → Result
 result_of_file main None = Refused Absent
-result_of_file main (Some bytes) = if nat_lt class_bytes (length bytes) then Refused TooLarge else result_of_class main bytes (class_of bytes)
+result_of_file main (Some bytes) = if nat_lt class_bytes (length bytes) then Refused TooLarge else result_of_class main bytes (grammar.class_of bytes) (form.class_of bytes)
 
 abbrev pub result_of_request : Option Request → (List ℕ → Option (List ℕ)) → Result
 result_of_request None files = Refused Usage
@@ -82,7 +98,7 @@ abbrev pub refusal_text : Refusal → List ℕ
 refusal_text Usage = codes "refused usage\n"
 refusal_text Absent = codes "refused absent 1\n"
 refusal_text TooLarge = codes "refused too-large class-bytes 1\n"
-refusal_text BadClass = codes "refused class 1 unsupported 0\n"
+refusal_text (BadClass fault) = codes "refused class 1 " ++ fault_text fault ++ codes "\n"
 
 -- the end of the one worker's run
 abbrev pub picked_end : Job → Option End

@@ -13,11 +13,11 @@ refusal_status Usage = statuses.Usage
 refusal_status Absent = statuses.Absent
 refusal_status ReadFault = statuses.ReadFault
 refusal_status TooLarge = statuses.TooLarge
-refusal_status BadClass = statuses.BadClass
+refusal_status (BadClass fault) = statuses.BadClass
 
 abbrev pub refusal_line : Refusal → List ℕ
 refusal_line Usage = refusal_text results.Usage
 refusal_line Absent = refusal_text results.Absent
 refusal_line ReadFault = read_text
 refusal_line TooLarge = refusal_text results.TooLarge
-refusal_line BadClass = refusal_text results.BadClass
+refusal_line (BadClass fault) = refusal_text (results.BadClass fault)

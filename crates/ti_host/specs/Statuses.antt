@@ -19,7 +19,7 @@ abbrev pub status_of_refusal : results.Refusal → Status
 status_of_refusal results.Usage = Usage
 status_of_refusal results.Absent = Absent
 status_of_refusal results.TooLarge = TooLarge
-status_of_refusal results.BadClass = BadClass
+status_of_refusal (results.BadClass fault) = BadClass
 
 -- of a refusal, or of the one worker's run of a job; it is there, since that run has an end
 abbrev pub status_of : Result → Option Status

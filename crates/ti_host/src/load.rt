@@ -1,7 +1,8 @@
 ghost use Rattle.std.specs.Prelude.{◌≡◌, ◌↔◌, IfSome};
-ghost use Rattle.first_form.specs.Reading.{class_of};
-ghost use Rattle.machine_model.specs.Results.{request_of, result_of, result_of_class};
-ghost use Rattle.ti_host.specs.Loads.{IsOfClass, Loads, LoadCounts};
+ghost use Rattle.classfile_read.specs.ClassReading as grammar;
+ghost use Rattle.first_form.specs.Reading as form;
+ghost use Rattle.machine_model.specs.Results.{request_of, result_of, result_of_class, result_of_first};
+ghost use Rattle.ti_host.specs.Loads.{Checks, IsOfClass, Loads, LoadCounts};
 ghost use Rattle.ti_host.specs.Words.{texts};
 
 use crate::refusal::Refusal;
@@ -30,21 +31,47 @@ const LIMITS: Limits = Limits {
 /// The most bytes that a class file may have.
 const CLASS_BYTES: u64 = 1_048_576;
 
-/// The job of the main class's name and its file's bytes.
-fn job_of(alloc: Global, main: &str, bytes: Vec<u8>) -> Result<Job, JobFault>
-    ensures told { Loads result (result_of_class main.now bytes.items (class_of bytes.items)) }
+/// A class that the grammar accepts, and that cannot be run yet.
+const NOT_YET: JobFault = JobFault::Refused(Refusal::BadClass(ReadClassFault::Unsupported(0)));
+
+/// Reads a class file by the whole grammar, and keeps nothing of it.
+fn check_class(alloc: Global, bytes: &[u8]) -> Result<(), JobFault>
+    ensures { Checks result (grammar.class_of bytes.now) }
+{
+    match read_class(alloc, bytes) {
+        Ok(_) => Ok(()),
+        Err(ReadClassFault::Memory) => Err(JobFault::Memory),
+        Err(fault) => Err(JobFault::Refused(Refusal::BadClass(fault))),
+    }
+}
+
+/// The job of a class file that the grammar accepts, if it is in the first form and of that name.
+fn first_job(alloc: Global, main: &str, bytes: Vec<u8>) -> Result<Job, JobFault>
+    ensures told { Loads result
+        (result_of_first main.now bytes.items (form.class_of bytes.items)) }
     ensures kind { IsOfClass result }
 {
-    match read_class(alloc, &bytes) {
+    match first_form_read::read_class(alloc, &bytes) {
         Ok(class) => {
             if class.name().is_text(main.as_bytes()) {
                 return Ok(Job::new(class, bytes, LIMITS));
             }
-            Err(JobFault::Refused(Refusal::BadClass))
+            Err(NOT_YET)
         }
-        Err(ReadClassFault::Unsupported(_)) => Err(JobFault::Refused(Refusal::BadClass)),
-        Err(ReadClassFault::Memory) => Err(JobFault::Memory),
+        Err(first_form_read::ReadClassFault::Unsupported(_)) => Err(NOT_YET),
+        Err(first_form_read::ReadClassFault::Memory) => Err(JobFault::Memory),
     }
+}
+
+/// The job of the main class's name and its file's bytes.
+#[tactic(auto, using(crate::proofs::Loading::accepted))]
+fn job_of(alloc: Global, main: &str, bytes: Vec<u8>) -> Result<Job, JobFault>
+    ensures told { Loads result
+        (result_of_class main.now bytes.items (grammar.class_of bytes.items) (form.class_of bytes.items)) }
+    ensures kind { IsOfClass result }
+{
+    check_class(alloc, &bytes)?;
+    first_job(alloc, main, bytes)
 }
 
 /// The job that the words and the store's files ask for. The words are read before any file is.

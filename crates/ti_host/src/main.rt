@@ -2,6 +2,7 @@
 //! why there is none, goes to standard output.
 #![tactic(auto)]
 
+mod class_line;
 mod host;
 mod load;
 mod refusal;

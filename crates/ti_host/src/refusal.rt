@@ -1,7 +1,9 @@
 ghost use Rattle.std.specs.Prelude.{◌≡◌};
 ghost use Rattle.ti_host.specs.Refusals.{refusal_status, refusal_line};
 
+use crate::class_line::{Line, class_line, line_of};
 use crate::status::Status;
+use classfile_read::ReadClassFault;
 
 /// Why there is no job, as one line tells it.
 #[derive(Clone, Copy, Debug, PartialEq, Eq)]
@@ -10,7 +12,8 @@ pub enum Refusal {
     Absent,
     ReadFault,
     TooLarge,
-    BadClass,
+    /// The class file has this fault, which is never want of memory.
+    BadClass(ReadClassFault),
 }
 
 impl Refusal {
@@ -22,20 +25,20 @@ impl Refusal {
             Refusal::Absent => Status::Absent,
             Refusal::ReadFault => Status::ReadFault,
             Refusal::TooLarge => Status::TooLarge,
-            Refusal::BadClass => Status::BadClass,
+            Refusal::BadClass(_) => Status::BadClass,
         }
     }
 
-    /// The line that is written, with its line feed.
-    pub fn line(self) -> &'static str
-        ensures { result.now ≡ refusal_line self }
+    /// The line that is written, with its line feed. No memory is taken.
+    pub fn line(self) -> Line
+        ensures { result.bytes ≡ refusal_line self }
     {
         match self {
-            Refusal::Usage => "refused usage\n",
-            Refusal::Absent => "refused absent 1\n",
-            Refusal::ReadFault => "refused read 1\n",
-            Refusal::TooLarge => "refused too-large class-bytes 1\n",
-            Refusal::BadClass => "refused class 1 unsupported 0\n",
+            Refusal::Usage => line_of("refused usage\n"),
+            Refusal::Absent => line_of("refused absent 1\n"),
+            Refusal::ReadFault => line_of("refused read 1\n"),
+            Refusal::TooLarge => line_of("refused too-large class-bytes 1\n"),
+            Refusal::BadClass(fault) => class_line(fault),
         }
     }
 }

@@ -1,5 +1,5 @@
 use Rattle.ti_host.proofs.Loading.{refused_other}
-use Rattle.ti_host.proofs.load.job_of.Goals as goal
+use Rattle.ti_host.proofs.load.first_job.Goals as goal
 
 pub returns-in-Ok-clause-told : goal.returns-in-Ok-clause-told
 returns-in-Ok-clause-told c =
