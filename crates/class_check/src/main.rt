@@ -1,0 +1,53 @@
+//! Says of class files whether the host accepts them. The words are `FILE..` or `--times N FILE..`, which reads and writes
+//! each file N times. Each file has its line on standard output: `NAME accepted BYTES`, `NAME FAULT OFFSET`, `NAME absent`,
+//! `NAME too-large` or `NAME unreadable`.
+#![tactic(auto)]
+
+mod check;
+mod files;
+#[cfg(test)]
+mod fixtures;
+#[cfg(test)]
+mod large_tests;
+mod line;
+mod status;
+#[cfg(test)]
+mod tests;
+#[cfg(test)]
+mod tree_tests;
+mod words;
+
+use files::check_all;
+use status::Status;
+use std::alloc::{AllocError, Global};
+use std::env::{self, Env};
+use std::io::ErrorKind;
+use std::process::ExitCode;
+use ti_port::FileStore;
+
+/// The words behind the program's name. Where one of them is no text there are none, and so they are not accepted.
+fn read_words<R: Env + AllocGlobal>(rt: &R) -> Result<Vec<String>, AllocError> {
+    let mut words = Vec::new(rt.alloc());
+    match env::args(rt) {
+        Ok(all) => {
+            for word in all.skip(1) {
+                words.push(word)?;
+            }
+        }
+        Err(error) => {
+            if error.kind() == ErrorKind::OutOfMemory {
+                return Err(AllocError);
+            }
+        }
+    }
+    Ok(words)
+}
+
+fn main(rt: HostRuntime) -> ExitCode {
+    let mut store = FileStore::new(&rt);
+    let status = match read_words(&rt) {
+        Ok(words) => check_all(rt.alloc(), &words, &mut store, &mut rt.stdout()),
+        Err(AllocError) => Status::OutOfMemory,
+    };
+    ExitCode::from(status as u8)
+}
