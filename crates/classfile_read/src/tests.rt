@@ -160,6 +160,14 @@ fn tells_the_first_fault(rt: HostRuntime) -> Result<(), AllocError> {
         fault_of(alloc, bytes.as_slice()),
         Some(ReadClassFault::Trailing(244))
     );
+    // A text of two bytes, of which the file has one: no character begins with it, or one that is cut off.
+    for (first, fault) in [
+        (0xc1, ReadClassFault::BadText(13)),
+        (0xc2, ReadClassFault::Truncated(14)),
+    ] {
+        let bytes = joined(alloc, &[part(0, 8), &[0, 2, 1, 0, 2, first]])?;
+        assert_eq!(rt; fault_of(alloc, bytes.as_slice()), Some(fault));
+    }
     Ok(())
 }
 

@@ -1,5 +1,5 @@
 -- What is computed of bytes is what modified UTF-8 says of them: each answer of TextReading has its case, and no other.
-use Rattle.std.proofs.Common.{◌≡◌, ℕ, ◌+◌, ◌/◌, ◌^◌, ◌<◌, ◌≤◌, true, false, leb, List, [], ◌∷◌, ◌++◌, length, take, drop, Option, Some, None, lit≤, refl, sym, ap, ◌∙◌, arith}
+use Rattle.std.proofs.Common.{◌≡◌, ℕ, ◌+◌, ◌/◌, ◌^◌, ◌<◌, ◌≤◌, true, false, eqb, leb, List, [], ◌∷◌, ◌++◌, length, take, drop, Option, Some, None, lit≤, refl, sym, ap, ◌∙◌, arith}
 use Rattle.std.specs.Str.{bytes_eq}
 use Rattle.std.proofs.Math.Seq.{take-append_seam, drop-append_seam}
 use Rattle.std.proofs.lemmas.Bool.Decides.{nat_tests}
@@ -23,18 +23,20 @@ size_front = each_unit (λ unit own. unit < 2 ^ 16 → (after : List ℕ) → fi
     let first : ℕ = 0xc0 + unit / 64 in
     let a : leb 1 first ≡ true = grind (arith, nat_tests) in
     let b : leb first 0x7f ≡ false = grind (arith, nat_tests) in
-    let d : leb 0xc0 first ≡ true = grind (arith, nat_tests) in
+    let c : eqb first 0xc0 ≡ false = grind (arith, nat_tests) in
+    let d : leb 0xc2 first ≡ true = grind (arith, nat_tests) in
     let e : leb first 0xdf ≡ true = grind (arith, nat_tests) in
-    rw (a, b, d, e) refl)
+    rw (a, b, c, d, e) refl)
     (λ unit low small after.
     let first : ℕ = 0xe0 + unit / 4096 in
     let a : leb 1 first ≡ true = grind (arith, nat_tests) in
     let b : leb first 0x7f ≡ false = grind (arith, nat_tests) in
-    let d : leb 0xc0 first ≡ true = grind (arith, nat_tests) in
+    let c : eqb first 0xc0 ≡ false = grind (arith, nat_tests) in
+    let d : leb 0xc2 first ≡ true = grind (arith, nat_tests) in
     let e : leb first 0xdf ≡ false = grind (arith, nat_tests) in
     let f : leb 0xe0 first ≡ true = grind (arith, nat_tests) in
     let g : leb first 0xef ≡ true = grind (arith, nat_tests) in
-    rw (a, b, d, e, f, g) refl)
+    rw (a, b, c, d, e, f, g) refl)
 
 -- A unit has as many bytes as its first byte tells.
 pub unit_size-first : (unit first : ℕ) (others : List ℕ) → unit < 2 ^ 16 → unit_bytes unit ≡ first ∷ others → unit_size first ≡ Some (length (unit_bytes unit))
@@ -48,10 +50,11 @@ size_bound first size sized =
           let more : 0xef < first = grind (arith, nat_tests, test) in
           let a : leb 1 first ≡ true = grind (arith, nat_tests) in
           let b : leb first 0x7f ≡ false = grind (arith, nat_tests) in
-          let d : leb 0xc0 first ≡ true = grind (arith, nat_tests) in
+          let c : eqb first 0xc0 ≡ false = grind (arith, nat_tests) in
+          let d : leb 0xc2 first ≡ true = grind (arith, nat_tests) in
           let e : leb first 0xdf ≡ false = grind (arith, nat_tests) in
           let f : leb 0xe0 first ≡ true = grind (arith, nat_tests) in
-          let none : unit_size first ≡ None = rw (a, b, d, e, f, test) refl in
+          let none : unit_size first ≡ None = rw (a, b, c, d, e, f, test) refl in
           absurd (none-some size (sym none ∙ sized))
     ] refl
 

@@ -1,14 +1,14 @@
 -- Modified UTF-8 read unit by unit (JVM specification 4.4.7), as functions of the bytes.
-use Rattle.std.specs.Prelude.{◌≡◌, ℕ, ◌+◌, ◌-◌, ◌*◌, ◌^◌, ◌<◌, ◌&&◌, ◌==◌, nat_le, if◌then◌else◌, List, [], ◌∷◌, ◌++◌, take, drop, Option, Some, None}
+use Rattle.std.specs.Prelude.{◌≡◌, ℕ, ◌+◌, ◌-◌, ◌*◌, ◌^◌, ◌<◌, ◌&&◌, ◌||◌, ◌==◌, nat_le, if◌then◌else◌, List, [], ◌∷◌, ◌++◌, take, drop, Option, Some, None}
 use Rattle.std.specs.Option.{option_and_then}
 use Rattle.std.specs.Cmp.Lexicographic.{pointwise}
 use Rattle.jv_names.specs.Utf8.{unit_bytes, BeginsNoUnit}
 
--- how many bytes spell a unit whose first byte this is
+-- how many bytes spell a unit whose first byte this is; what 0xc1 would begin is spelled shorter, so it begins none
 abbrev pub unit_size : ℕ → Option ℕ
 unit_size first =
     if nat_le 1 first && nat_le first 0x7f then Some 1
-    else if nat_le 0xc0 first && nat_le first 0xdf then Some 2
+    else if first == 0xc0 || (nat_le 0xc2 first && nat_le first 0xdf) then Some 2
     else if nat_le 0xe0 first && nat_le first 0xef then Some 3
     else None
 

@@ -15,7 +15,7 @@ fn unit_size(first: u8) -> Option<usize>
 {
     match first {
         0x01..=0x7f => Some(1),
-        0xc0..=0xdf => Some(2),
+        0xc0 | 0xc2..=0xdf => Some(2),
         0xe0..=0xef => Some(3),
         _ => None,
     }
