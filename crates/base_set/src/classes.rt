@@ -97,7 +97,8 @@ fn add_errors(
 /// Each has version 52.0 and no attribute, and `Object` alone has no superclass. Fields and methods stand in the table's
 /// order: constructors first, and overloads by their parameter, int, long, char, boolean and `String`. `PrintStream` has
 /// `println` of these five, then `print` of the same, then `println` without a parameter. A method that isn't abstract has
-/// the code `aconst_null`, `athrow`, which is never run, for a stack of one and the local variables of its parameters.
+/// the code `aconst_null`, `athrow`, which is never run, for a stack of one and the local variables of its
+/// parameters, `this` among them.
 ///
 /// Fails only where memory is refused.
 pub fn base_classes(alloc: Global) -> Result<Vec<ClassFile>, AllocError>

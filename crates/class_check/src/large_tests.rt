@@ -1,4 +1,4 @@
-//! Files of the greatest sizes are read in time.
+//! Files of the greatest sizes are read and written again within the time that a test has.
 
 use crate::check::{Checked, check_class};
 use std::alloc::{AllocError, Global};

@@ -1,5 +1,5 @@
-//! Says of class files whether the host accepts them. The words are `FILE..` or `--times N FILE..`, which reads and writes
-//! each file N times. Each file has its line on standard output: `NAME accepted BYTES`, `NAME FAULT OFFSET`, `NAME absent`,
+//! Says of class files whether the host accepts them. The words are `FILE..` or `--times N FILE..`, which reads
+//! each file and writes it again, in memory, N times. Each file has its line on standard output: `NAME accepted BYTES`, `NAME FAULT OFFSET`, `NAME absent`,
 //! `NAME too-large` or `NAME unreadable`.
 #![tactic(auto)]
 

@@ -13,8 +13,8 @@ use std::marker::Model;
 ///
 /// Each value is well-formed: its numbers are in their ranges, its indices name what they must, and its names, descriptors,
 /// codes and attributes are as the standard says for versions 50 to 52, without floating point, native methods, method
-/// handles and `invokedynamic`. The superclass may be wanting, as `Object`'s is. Access flags, and where the entries of a
-/// stack map lie, are not looked at.
+/// handles and `invokedynamic`. The superclass may be wanting, as `Object`'s is. Which access flags go together, and where the
+/// entries of a stack map lie, is not looked at.
 #[derive(Drop)]
 pub struct ClassFile {
     /// The minor number of the format's version.

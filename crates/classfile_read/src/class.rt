@@ -152,9 +152,11 @@ fn class_from(alloc: Global, end: usize, bytes: &[u8]) -> Result<Parts, ReadClas
 }
 
 /// The class that the bytes of a class file are (4.1): one of a major version from 50 to 52, whose numbers, indices, names,
-/// descriptors, instructions and branches are in order, and that has no native method. It may have nothing of floating point
-/// or of method handles in its pool, in the descriptors that it uses, in its code or in its stack maps. Of a stack map the
-/// tags and the indices of classes are looked at, not where its entries lie; of access flags nothing else is looked at.
+/// descriptors, instructions, branches and lengths are in order, and no two of whose fields or methods have one name and
+/// descriptor. A method has one `Code`, an abstract one has none and a native one is refused; a static field's
+/// `ConstantValue` is of the kind that its descriptor asks. The file may have nothing of floating point, of method handles
+/// or of `invokedynamic` in its pool, in the descriptors that it uses, in its code or in its stack maps. Of a stack map the
+/// tags and the indices of classes are looked at, not where its entries lie; which access flags go together is not.
 ///
 /// An `Err` is the first fault that shows when the bytes are read in order, or that memory ran out. The time is linear in the
 /// bytes, but for look-ups among a pool's texts, a class's members and a code's instructions, which take logarithmic time
