@@ -1,0 +1,11 @@
+//! Monitors of objects, with their owners, their entries and their wait sets (Java Virtual Machine Specification, SE 8,
+//! 2.11.10; Java Language Specification, SE 8, 17.1 and 17.2).
+#![tactic(auto)]
+
+mod monitor;
+mod table;
+#[cfg(test)]
+mod tests;
+
+pub use monitor::Waiting;
+pub use table::{Entry, MonitorFault, Monitors};
