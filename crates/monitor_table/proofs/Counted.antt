@@ -13,6 +13,7 @@ use Rattle.monitor_table.specs.Index.{IsKept}
 abbrev GaveUp : Waiting → Type 0
 GaveUp w = 1 ≤ w.entries
 
+-- of no waits, of one more, and of one less
 none_waits : All GaveUp []
 none_waits k d below = absurd (omega arith)
 
@@ -23,6 +24,7 @@ both w waits first others (suc k) d below = others k d (omega arith)
 later : (w : Waiting) (waits : List Waiting) → All GaveUp (w ∷ waits) → All GaveUp waits
 later w waits all k d below = all (suc k) d (omega arith)
 
+-- nobody has ever entered it
 pub IsCounted-free : IsCounted free
 IsCounted-free = record { entries = refl; notified = none_waits; waiting = none_waits }
 
@@ -30,9 +32,12 @@ IsCounted-free = record { entries = refl; notified = none_waits; waiting = none_
 pub entries-owned : (m : Monitor) (thread : ThreadNo) → m.owner ≡ Some thread → IsCounted m → 1 ≤ m.entries
 entries-owned m thread owned counted = rw owned at counted.entries
 
+-- ---- each change keeps it counted
+
 IsCounted-entered : (thread : ThreadNo) (m : Monitor) → IsCounted m → IsCounted (entered thread m)
 IsCounted-entered thread m counted = record { entries = omega arith; notified = counted.notified; waiting = counted.waiting }
 
+-- with the last entry the owner goes
 entries-left : (owner : Option ThreadNo) (entries : ℕ) (last : Bool) → (entries == 1) ≡ last → MatchOption owner (entries ≡ 0) (λ _. 1 ≤ entries) → MatchOption (cond last None owner) (entries - 1 ≡ 0) (λ _. 1 ≤ entries - 1)
 entries-left owner entries true is counted = grind (arith, nat_tests)
 entries-left None entries false is counted = omega arith
@@ -58,16 +63,17 @@ IsCounted-with_all_notified m counted = record {
   waiting = none_waits;
 }
 
+-- what a thread gets back: it has a wait, and that gave up an entry
 given_up_some : (thread : ThreadNo) (w : Waiting) (waits : List Waiting) (own : Bool) → is_by thread w ≡ own → GaveUp w → (own ≡ false → 1 ≤ given_up thread waits) → 1 ≤ given_up thread (w ∷ waits)
 given_up_some thread w waits true is first others = rw is first
 given_up_some thread w waits false is first others = rw is (others refl)
 
--- what a thread gets back
 le-given_up : (thread : ThreadNo) (waits : List Waiting) → has_wait thread waits ≡ true → All GaveUp waits → 1 ≤ given_up thread waits
 le-given_up thread [] found all = absurd (cc)
 le-given_up thread (w ∷ waits) found all =
     given_up_some thread w waits _ refl (all 0 w (omega arith)) (λ other. le-given_up thread waits (rw other at found) (later w waits all))
 
+-- the waits of the others stay
 without_one : (thread : ThreadNo) (w : Waiting) (waits : List Waiting) (own : Bool) → is_by thread w ≡ own → GaveUp w → All GaveUp waits → All GaveUp (without thread waits) → All GaveUp (without thread (w ∷ waits))
 without_one thread w waits true is first all others = rw is all
 without_one thread w waits false is first all others = rw is (both w (without thread waits) first others)
@@ -84,7 +90,7 @@ IsCounted-taken_back thread m found counted = record {
   waiting = counted.waiting;
 }
 
--- ---- what stays in use
+-- ---- each change but an exit keeps it in use
 
 is_free-owned : (m : Monitor) (thread : ThreadNo) → m.owner ≡ Some thread → is_free m ≡ false
 is_free-owned m thread owned = rw owned refl

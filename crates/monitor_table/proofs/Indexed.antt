@@ -74,6 +74,7 @@ pub record ChangesOne (place_of new_place_of : ℕ → Option ℕ) (monitor_at n
   pub monitor : new_monitor_at key ≡ slot
   pub monitors : (other : ℕ) → other ≢ key → new_monitor_at other ≡ monitor_at other
 
+-- p and q give the places before and after, s and t the monitors
 module _ (p q : ℕ → Option ℕ) (s t : ℕ → Option Monitor) (number key : ℕ) (slot : Option Monitor) (indexed : IsIndexed p s) (one : ChangesOne p q s t number key slot) where
   -- another object that has a place has another one
   elsewhere : (other k : ℕ) → other ≢ number → p other ≡ Some k → k ≢ key

@@ -36,6 +36,7 @@ same_monitors old new same = finite.same_map nat_cmp_total finite.nat_cmp-IsAnti
 abbrev pub entry_of : Monitor → Option Monitor
 entry_of m = cond (is_free m) None (Some m)
 
+-- the order of the keys tells them apart
 here : (q : ℕ) → eq_by_cmp nat_cmp q q ≡ true
 here q = grind (finite.gets, rules)
 

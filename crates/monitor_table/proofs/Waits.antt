@@ -16,6 +16,7 @@ record IsFirstWait (thread : ThreadNo) (waits : List Waiting) (place : ℕ) : Ty
   entries : (d : Waiting) → (get_or waits place d).entries ≡ given_up thread waits
   others : remove waits place ≡ without thread waits
 
+-- it is this one, or the first of the others
 first_of : (thread : ThreadNo) (w : Waiting) (waits : List Waiting) (b : Bool) → is_by thread w ≡ b → (b ≡ false → IsFirstWait thread waits (position_or_len (is_by thread) waits)) → IsFirstWait thread (w ∷ waits) (position_or_len (is_by thread) (w ∷ waits))
 first_of thread w waits true e later = rw e (record { within = omega arith; entries = λ d. rw e refl; others = rw e refl })
 first_of thread w waits false e later =
@@ -23,10 +24,12 @@ first_of thread w waits false e later =
     let next : 1 + position_or_len (is_by thread) waits ≡ suc (position_or_len (is_by thread) waits) = omega arith in
     rw (e, next) (record { within = omega (arith, rest.within); entries = λ d. rw e (rest.entries d); others = rw e (ap (λ ws. w ∷ ws) rest.others) })
 
+-- so it stands behind all waits of other threads
 first_at_len : (thread : ThreadNo) (waits : List Waiting) → has_wait thread waits ≡ true → IsFirstWait thread waits (position_or_len (is_by thread) waits)
 first_at_len thread [] found = absurd (cc)
 first_at_len thread (w ∷ waits) found = first_of thread w waits _ refl (λ other. first_at_len thread waits (rw other at found))
 
+-- a search finds its place
 position-within : (thread : ThreadNo) (waits : List Waiting) → position_or_len (is_by thread) waits < length waits → position (is_by thread) waits ≡ Some (position_or_len (is_by thread) waits)
 position-within thread waits within = grind (arith, nat_tests)
 
@@ -34,7 +37,7 @@ position-within thread waits within = grind (arith, nat_tests)
 pub IsSome-position : (thread : ThreadNo) (waits : List Waiting) → has_wait thread waits ≡ true → IsSome (position (is_by thread) waits)
 IsSome-position thread waits found = rw (position-within thread waits (first_at_len thread waits found).within) refl
 
--- and its place is the one that a search finds
+-- and it stands at the place that a search finds
 IsFirstWait-position : (thread : ThreadNo) (waits : List Waiting) (place : ℕ) → has_wait thread waits ≡ true → position (is_by thread) waits ≡ Some place → IsFirstWait thread waits place
 IsFirstWait-position thread waits place found at =
     let first = first_at_len thread waits found in
@@ -52,6 +55,7 @@ pub record IsTakenOut (thread : ThreadNo) (waits : List Waiting) (n place : ℕ)
   pub front : take (n - 1) (remove waits place) ≡ without thread (take n waits)
   pub behind : drop (n - 1) (remove waits place) ≡ drop n waits
 
+-- the first wait of the front is taken out
 IsTakenOut-first : (thread : ThreadNo) (waits : List Waiting) (n place : ℕ) → n ≤ length waits → IsFirstWait thread (take n waits) place → IsTakenOut thread waits n place
 IsTakenOut-first thread waits n place inside first =
     let size = length-take-le n waits inside in
