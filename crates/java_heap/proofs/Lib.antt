@@ -1,0 +1,6 @@
+pub mod Lists
+pub mod Numbers
+pub mod Sound
+pub mod Replaced
+pub mod Added
+pub mod Indexes

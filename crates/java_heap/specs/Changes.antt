@@ -1,0 +1,70 @@
+-- What the calls of a heap change.
+use Rattle.std.specs.Prelude.{◌≡◌, ℕ, ◌+◌, ◌-◌, ◌<◌, ◌↔◌, List, [], ◌∷◌, ◌++◌, slice_set, Option, Some, None, Result, Ok, Err, IfOk, OnErr}
+use Rattle.std.specs.Option.{option_map_or}
+use Rattle.ti_ids.specs.declared.number.ObjNo.{ObjNo}
+use Rattle.ti_ids.specs.declared.value.Value.{Value}
+use Rattle.java_heap.specs.declared.fault.HeapFault.{HeapFault}
+use Rattle.java_heap.specs.declared.fault.HeapFault.TheVariants.{Full}
+use Rattle.java_heap.specs.declared.object.Object.{Object}
+use Rattle.java_heap.specs.declared.object.Content.{Content}
+use Rattle.java_heap.specs.declared.object.Content.TheVariants.{Fields, Elements, Text}
+use Rattle.java_heap.specs.Objects.{words_of}
+use Rattle.java_heap.specs.Heaps.{HeapValue, words_taken, next_number, object_at}
+
+-- ---- allocations
+
+-- so many words more would pass the limit
+abbrev pub PassesLimit : HeapValue → ℕ → Type 0
+PassesLimit heap words = heap.limit < words_taken heap + words
+
+-- the object was added as the next one, and nothing else changed
+pub record Adds (old new : HeapValue) (object : Object) (n : ObjNo) : Type 0 where
+  pub number : n ≡ next_number old
+  pub after : new ≡ record old { objects = old.objects ++ object ∷ [] }
+
+-- an allocation: the object is added, or nothing changes; it is refused as full exactly where it would pass the limit
+pub record Allocates (old new : HeapValue) (object : Object) (result : Result ObjNo HeapFault) : Type 0 where
+  pub made : IfOk result (Adds old new object)
+  pub full : (result ≡ Err Full) ↔ PassesLimit old (words_of object.content)
+  pub err : OnErr result (new ≡ old)
+
+-- an object that is made once: where there is one already, it is the answer and nothing changes; else it is allocated
+abbrev pub GivesOnce : Option ObjNo → HeapValue → HeapValue → Object → Result ObjNo HeapFault → Type 0
+GivesOnce (Some n) old new object result = (result ≡ Ok n) × (new ≡ old)
+GivesOnce None old new object result = Allocates old new object result
+
+-- ---- changes of one object
+
+-- the heap whose object of this number is changed so; a number of no object changes nothing
+abbrev pub with_changed : HeapValue → ObjNo → (Object → Object) → HeapValue
+with_changed heap n change = record heap { objects = option_map_or (λ o. slice_set heap.objects (n.0 - 1) (change o)) (object_at heap n) heap.objects }
+
+abbrev pub with_content : HeapValue → ObjNo → (Content → Content) → HeapValue
+with_content heap n change = with_changed heap n (λ o. record o { content = change o.content })
+
+-- a value put at a place of an instance's fields, or of an array's elements
+abbrev pub put_field : ℕ → Value → Content → Content
+put_field place value (Fields values) = Fields (slice_set values place value)
+put_field place value content = content
+
+abbrev pub put_elem : ℕ → Value → Content → Content
+put_elem place value (Elements values) = Elements (slice_set values place value)
+put_elem place value content = content
+
+-- units put behind those of a text that the program made
+abbrev pub put_behind : List ℕ → Content → Content
+put_behind more (Text units) = Text (units ++ more)
+put_behind more content = content
+
+-- the heap with another field, another element, another reference at an object's side, and more units of a text
+abbrev pub with_field : HeapValue → ObjNo → ℕ → Value → HeapValue
+with_field heap n place value = with_content heap n (put_field place value)
+
+abbrev pub with_elem : HeapValue → ObjNo → ℕ → Value → HeapValue
+with_elem heap n place value = with_content heap n (put_elem place value)
+
+abbrev pub with_side : HeapValue → ObjNo → Option ObjNo → HeapValue
+with_side heap n side = with_changed heap n (λ o. record o { side = side })
+
+abbrev pub with_more : HeapValue → ObjNo → List ℕ → HeapValue
+with_more heap n units = with_content heap n (put_behind units)

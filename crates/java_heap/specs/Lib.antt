@@ -1,0 +1,5 @@
+pub mod Objects
+pub mod Heaps
+pub mod Changes
+pub mod Kept
+pub mod Inside

@@ -1,0 +1,74 @@
+-- What one object is: JVM specification 2.4, 2.7 and 5.1. Its measure in heap words is this project's own.
+use Rattle.std.specs.Prelude.{ℕ, ◌+◌, ◌==◌, Bool, true, false, ◌&&◌, List, [], length, Option, Some, None, bytes_eq}
+use Rattle.ti_ids.specs.declared.number.ClassNo.{ClassNo}
+use Rattle.ti_ids.specs.declared.value.Value.{Value}
+use Rattle.java_heap.specs.declared.object.Object.{Object}
+use Rattle.java_heap.specs.declared.object.Content.{Content}
+use Rattle.java_heap.specs.declared.object.Content.TheVariants.{Fields, Elements, Text, Literal, ClassObject}
+use Rattle.java_heap.specs.declared.object.TheConstants.{STRING_BUILDER}
+
+-- an object as it is made: nothing stands at its side
+abbrev pub fresh : ClassNo → Content → Object
+fresh class content = record { class = class; content = content; side = None }
+
+-- the heap words of an object: 2, and 1 for each field, element or UTF-16 unit
+abbrev pub words_of : Content → ℕ
+words_of (Fields values) = 2 + length values
+words_of (Elements values) = 2 + length values
+words_of (Text units) = 2 + length units
+words_of (Literal units) = 2 + length units
+words_of (ClassObject class) = 2
+
+-- all values that an object holds
+abbrev pub values_of : Content → List Value
+values_of (Fields values) = values
+values_of (Elements values) = values
+values_of _ = []
+
+-- the fields of an instance; nothing else has fields
+abbrev pub fields_of : Content → Option (List Value)
+fields_of (Fields values) = Some values
+fields_of _ = None
+
+-- the elements of an array
+abbrev pub elements_of : Content → Option (List Value)
+elements_of (Elements values) = Some values
+elements_of _ = None
+
+-- the UTF-16 units of a String or a StringBuilder
+abbrev pub text_of : Content → Option (List ℕ)
+text_of (Text units) = Some units
+text_of (Literal units) = Some units
+text_of _ = None
+
+-- the class that a Class object stands for
+abbrev pub class_named_by : Content → Option ClassNo
+class_named_by (ClassObject class) = Some class
+class_named_by _ = None
+
+-- the String of the constant of these units
+abbrev pub is_literal : List ℕ → Content → Bool
+is_literal wanted (Literal units) = bytes_eq wanted units
+is_literal wanted _ = false
+
+-- the Class object of this class
+abbrev pub is_class_object : ClassNo → Content → Bool
+is_class_object wanted (ClassObject class) = wanted.0 == class.0
+is_class_object wanted _ = false
+
+-- a text that the program made
+abbrev pub is_text : Content → Bool
+is_text (Text units) = true
+is_text _ = false
+
+-- a StringBuilder
+abbrev pub is_builder : Object → Bool
+is_builder object = object.class.0 == STRING_BUILDER.0 && is_text object.content
+
+-- one of the objects of which there may be many alike
+abbrev pub is_plain : Content → Bool
+is_plain (Fields values) = true
+is_plain (Elements values) = true
+is_plain (Text units) = true
+is_plain (Literal units) = false
+is_plain (ClassObject class) = false

@@ -1,0 +1,107 @@
+//! New objects, and more units of a StringBuilder. Each takes heap words, or is refused.
+ghost use Rattle.std.specs.Prelude.{◌≡◌, ◌+◌, ◌<◌, ◌≤◌, ◌↔◌, [], ◌∷◌, ◌++◌, All, Err, IfOk, IsNone, IsTrue, OnErr, OnOk, MatchResult, length, replicate, vec_capacity, vec_len};
+ghost use Rattle.java_heap.specs.Objects.{fresh, words_of, is_plain};
+ghost use Rattle.java_heap.specs.Heaps.{words_taken, next_number, NamesThere, RefersThere, IsBuilder};
+ghost use Rattle.java_heap.specs.Changes.{PassesLimit, Adds, with_more};
+
+use super::Heap;
+use crate::{Content, HeapFault, Object, Text};
+use jv_names::Units;
+use sqlite_items::Items;
+use std::alloc::AllocError;
+use ti_ids::{ClassNo, ObjNo, Value};
+
+/// The words of an object beside its fields, elements or units.
+pub(super) const HEADER_WORDS: usize = 2;
+
+impl Heap {
+    /// Passes so many words on, where the limit has room for them.
+    pub(super) fn room_for(&self, words: usize) -> Result<u32, HeapFault>
+        ensures { MatchResult result (λ w. (w ≡ words) × (words_taken self.now + words ≤ self.now.limit)) (λ e. (e ≡ HeapFault.Full) × PassesLimit self.now words) }
+    {
+        if words > (self.limit - self.words) as usize {
+            return Err(HeapFault::Full);
+        }
+        Ok(words as u32)
+    }
+
+    /// The number of the next object.
+    pub(super) fn next_number(&self) -> ObjNo
+        ensures { result ≡ next_number self.now }
+    {
+        ObjNo(self.objects.len() as u32 + 1)
+    }
+
+    /// Puts an object of so many words behind the others.
+    fn add(&mut self, object: Object, words: u32) -> Result<ObjNo, AllocError>
+        requires words { words ≡ words_of object.content }
+        requires room { words_taken self.old + words ≤ self.old.limit }
+        requires refers { RefersThere self.old object }
+        requires plain { IsTrue (is_plain object.content) }
+        ensures ok { IfOk result (Adds self.old self.new object) }
+        ensures err { OnErr result (self.new ≡ self.old) }
+    {
+        let number = self.next_number();
+        self.objects.push(object)?;
+        self.words += words;
+        Ok(number)
+    }
+
+    /// An instance of a class, with these fields.
+    pub fn alloc_object(&mut self, class: ClassNo, fields: &[Value]) -> Result<ObjNo, HeapFault>
+        requires there { All (NamesThere self.old) fields.now }
+        ensures made { IfOk result (Adds self.old self.new (fresh class (Content.Fields fields.now))) }
+        ensures full { (result ≡ Err HeapFault.Full) ↔ PassesLimit self.old (words_of (Content.Fields fields.now)) }
+        ensures err { OnErr result (self.new ≡ self.old) }
+    {
+        let words = self.room_for(HEADER_WORDS + fields.len())?;
+        let fields = Items::from_slice(self.alloc, fields)?;
+        Ok(self.add(Object::fresh(class, Content::Fields(fields)), words)?)
+    }
+
+    /// An array of so many elements, each of which is `first`.
+    pub fn alloc_array(
+        &mut self,
+        class: ClassNo,
+        length: u32,
+        first: Value,
+    ) -> Result<ObjNo, HeapFault>
+        requires there { NamesThere self.old first }
+        ensures made { IfOk result (Adds self.old self.new (fresh class (Content.Elements (replicate length first)))) }
+        ensures full { (result ≡ Err HeapFault.Full) ↔ PassesLimit self.old (words_of (Content.Elements (replicate length first))) }
+        ensures err { OnErr result (self.new ≡ self.old) }
+    {
+        let words = self.room_for(HEADER_WORDS + length as usize)?;
+        let mut elements = Vec::with_capacity(self.alloc, length as usize)?;
+        elements.resize(length as usize, first)?;
+        let content = Content::Elements(Items::from_vec(elements));
+        Ok(self.add(Object::fresh(class, content), words)?)
+    }
+
+    /// A String or a StringBuilder of these UTF-16 units.
+    pub fn alloc_text(&mut self, class: ClassNo, units: &Units) -> Result<ObjNo, HeapFault>
+        ensures made { IfOk result (Adds self.old self.new (fresh class (Content.Text units.now))) }
+        ensures full { (result ≡ Err HeapFault.Full) ↔ PassesLimit self.old (words_of (Content.Text units.now)) }
+        ensures err { OnErr result (self.new ≡ self.old) }
+    {
+        let words = self.room_for(HEADER_WORDS + units.as_slice().len())?;
+        let text = Text::from_slice(self.alloc, units.as_slice())?;
+        Ok(self.add(Object::fresh(class, Content::Text(text)), words)?)
+    }
+
+    /// Puts UTF-16 units behind those of a StringBuilder, in amortized time linear in them.
+    pub fn append(&mut self, object: ObjNo, units: &Units) -> Result<(), HeapFault>
+        requires builder { IsBuilder self.old object }
+        ensures grown { OnOk result (self.new ≡ with_more self.old object units.now) }
+        ensures full { (result ≡ Err HeapFault.Full) ↔ PassesLimit self.old (length units.now) }
+        ensures err { OnErr result (self.new ≡ self.old) }
+    {
+        let words = self.room_for(units.as_slice().len())?;
+        match &mut self.objects[object.0 as usize - 1].content {
+            Content::Text(text) => text.append(units.as_slice())?,
+            _ => unreachable!(),
+        }
+        self.words += words;
+        Ok(())
+    }
+}
