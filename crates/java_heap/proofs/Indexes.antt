@@ -1,6 +1,6 @@
 -- An object of which there is one is put behind the others and into its index: the index finds it, and what it found before.
 use Rattle.std.proofs.Common.{◌≡◌, ℕ, ◌+◌, ◌≤◌, Bool, true, false, cond, List, [], Option, Some, None, is_some, refl, sym, ap, ◌∙◌, subst, arith}
-use Rattle.std.specs.Prelude.{Vec, All, IsNone, bytes_eq, ◌==◌}
+use Rattle.std.specs.Prelude.{Vec, All, IsNone, IsTrue, bytes_eq, ◌==◌}
 use Rattle.std.specs.Option.{option_or}
 use Rattle.std.specs.Ordering.{nat_cmp, is_eq}
 use Rattle.std.specs.Cmp.{eq_by_cmp_equiv}
@@ -10,7 +10,7 @@ use Rattle.std.specs.BTreeMap.{get, is_at, UpdatesBy}
 use Rattle.std.specs.declared.alloc.Global.{Global}
 use Rattle.std.proofs.lemmas.Map.Text.{is_eq-slice_cmp}
 use Rattle.std.proofs.lemmas.Slice.Eq.{bytes_eq-Decides}
-use Rattle.std.proofs.lemmas.Bool.{eqb-true}
+use Rattle.std.proofs.lemmas.Bool.{eqb-true, false≢true}
 use Rattle.std.proofs.lemmas.List.Elements.{All-nil}
 use Rattle.ti_ids.specs.declared.number.ClassNo.{ClassNo}
 use Rattle.ti_ids.specs.declared.number.ObjNo.{ObjNo}
@@ -20,7 +20,8 @@ use Rattle.java_heap.specs.declared.object.Content.TheVariants.{Literal, ClassOb
 use Rattle.java_heap.specs.Objects.{fresh, words_of, values_of, is_literal, is_class_object}
 use Rattle.java_heap.specs.Heaps.{HeapValue, words_taken, next_number, first_number, literal_of, class_object_of, NamesThere, RefersThere}
 use Rattle.java_heap.specs.Kept.{LiteralIndex, ClassIndex, IsKept, indexed_literal}
-use Rattle.java_heap.proofs.Added.{added, MayAdd, words_added, sound_added, first_number-added, passed_over}
+use Rattle.java_heap.proofs.Added.{MayAdd, words_added, sound_added}
+use Rattle.java_heap.proofs.Firsts.{added, first_number-added, passed_over}
 
 -- ---- one entry more in an index
 
@@ -53,60 +54,74 @@ or_last None false n absent = refl
 or_last (Some m) true n absent = let none : is_some (Some m) ≡ false = absent refl in absurd cc
 or_last (Some m) false n absent = refl
 
-same_class : (class other : ClassNo) → class.0 ≡ other.0 → class ≡ other
-same_class class other e = ap (λ (n : ℕ). let class : ClassNo = record { 0 = n } in class) e
-
-at_number : (named wanted : ClassNo) → is_at (nat_cmp named.0) wanted.0 ≡ (wanted.0 == named.0)
-at_number named wanted = grind arith
-
 -- what an index has after a put is what is there after the object was added
-found_added : (test : Content → Bool) (heap : HeapValue) (object : Object) (b : Bool) (before after : Option ObjNo) → test object.content ≡ b → (b ≡ true → IsNone (first_number test heap)) → before ≡ first_number test heap
+found_added : (test : Content → Bool) (heap : HeapValue) (object : Object) (b : Bool) (before after : Option ObjNo) → test object.content ≡ b → (IsTrue (test object.content) → IsNone (first_number test heap)) → before ≡ first_number test heap
     → after ≡ cond b (Some (next_number heap)) before → after ≡ first_number test (added heap object)
 found_added test heap object b before after passes absent was put =
     put
     ∙ ap (λ (found : Option ObjNo). cond b (Some (next_number heap)) found) was
-    ∙ or_last (first_number test heap) b (next_number heap) absent
+    ∙ or_last (first_number test heap) b (next_number heap) (λ e. absent (passes ∙ e))
     ∙ sym (first_number-added test heap object ∙ ap (λ (b : Bool). option_or (first_number test heap) (cond b (Some (next_number heap)) None)) passes)
 
 refers_nowhere : (heap : HeapValue) (class : ClassNo) (content : Content) → values_of content ≡ [] → RefersThere heap (fresh class content)
 refers_nowhere heap class content none = record { values = subst (All (NamesThere heap)) (sym none) (All-nil (NamesThere heap)); side = tt }
 
--- the String of a constant
+-- ---- the String of a constant
+
+literal_may_add : (heap : HeapValue) (class : ClassNo) (units : List ℕ) → words_taken heap + words_of (Literal units) ≤ heap.limit → IsNone (literal_of heap units) → MayAdd heap (fresh class (Literal units))
+literal_may_add heap class units room absent = record {
+  room = room;
+  refers = refers_nowhere heap class (Literal units) refl;
+  literal = λ wanted equal. subst (λ (us : List ℕ). IsNone (literal_of heap us)) (sym ((bytes_eq-Decides wanted units).0 equal)) absent;
+  class_object = λ class is. absurd (false≢true is);
+}
+
 pub literal_kept : (heap : HeapValue) (words : ℕ) (literals literals' : LiteralIndex) (class_objects : ClassIndex) (class : ClassNo) (units key : List ℕ) (n : ObjNo) (more : ℕ)
     → IsKept heap words literals class_objects → IsNone (literal_of heap units) → more ≡ words_of (Literal units) → words_taken heap + more ≤ heap.limit → n ≡ next_number heap → key ≡ units
     → UpdatesBy (λ (x y : Vec ℕ Global). slice_cmp nat_cmp x.items y.items) (λ (k : Vec ℕ Global). slice_cmp nat_cmp key k.items) literals literals' (Some n)
     → IsKept (added heap (fresh class (Literal units))) (words + more) literals' class_objects
 literal_kept heap words literals literals' class_objects class units key n more kept absent size room next same updates =
     let object = fresh class (Literal units) in
-    let may : MayAdd heap object = record { room = omega (arith, room, size); refers = refers_nowhere heap class (Literal units) refl } in
-    let put = λ (wanted : List ℕ).
-    literal_put key literals literals' n updates wanted ∙ ap (λ (us : List ℕ). cond (bytes_eq us wanted) (Some n) (indexed_literal literals wanted)) same
-    ∙ ap (λ (m : ObjNo). cond (bytes_eq units wanted) (Some m) (indexed_literal literals wanted)) next in
+    let may = literal_may_add heap class units (omega (arith, room, size)) absent in
     record {
       sound = sound_added heap object kept.sound may;
       counted = omega (arith, kept.counted, size, words_added heap object);
       literals_found = λ wanted.
-          found_added (is_literal wanted) heap object (bytes_eq units wanted) (indexed_literal literals wanted) (indexed_literal literals' wanted) (nat_list_eq_equiv.symm wanted units)
-          (λ equal. subst (λ (us : List ℕ). IsNone (literal_of heap us)) ((bytes_eq-Decides units wanted).0 equal) absent) (kept.literals_found wanted) (put wanted);
+          let found = indexed_literal literals wanted in
+          let put : indexed_literal literals' wanted ≡ cond (bytes_eq units wanted) (Some (next_number heap)) found = literal_put key literals literals' n updates wanted ∙ ap (λ (us : List ℕ). cond (bytes_eq us wanted) (Some n) found) same ∙ ap (λ (m : ObjNo). cond (bytes_eq units wanted) (Some m) found) next in
+          found_added (is_literal wanted) heap object (bytes_eq units wanted) found (indexed_literal literals' wanted) (nat_list_eq_equiv.symm wanted units) (may.literal wanted) (kept.literals_found wanted) put;
       class_objects_found = λ wanted. kept.class_objects_found wanted ∙ sym (passed_over (is_class_object wanted) heap object refl);
     }
 
--- the Class object of a class
+-- ---- the Class object of a class
+
+same_class : (class other : ClassNo) → class.0 ≡ other.0 → class ≡ other
+same_class class other e = ap (λ (n : ℕ). let class : ClassNo = record { 0 = n } in class) e
+
+class_object_may_add : (heap : HeapValue) (class named : ClassNo) → words_taken heap + words_of (ClassObject named) ≤ heap.limit → IsNone (class_object_of heap named) → MayAdd heap (fresh class (ClassObject named))
+class_object_may_add heap class named room absent = record {
+  room = room;
+  refers = refers_nowhere heap class (ClassObject named) refl;
+  literal = λ units is. absurd (false≢true is);
+  class_object = λ wanted equal. subst (λ (c : ClassNo). IsNone (class_object_of heap c)) (sym (same_class wanted named (eqb-true wanted.0 named.0 equal))) absent;
+}
+
+-- the query of a number tests for it
+at_number : (named wanted : ClassNo) → is_at (nat_cmp named.0) wanted.0 ≡ (wanted.0 == named.0)
+at_number named wanted = grind arith
+
 pub class_object_kept : (heap : HeapValue) (words : ℕ) (literals : LiteralIndex) (class_objects class_objects' : ClassIndex) (class named : ClassNo) (n : ObjNo) (more : ℕ)
     → IsKept heap words literals class_objects → IsNone (class_object_of heap named) → more ≡ words_of (ClassObject named) → words_taken heap + more ≤ heap.limit → n ≡ next_number heap
-    → UpdatesBy nat_cmp (nat_cmp named.0) class_objects class_objects' (Some n)
-    → IsKept (added heap (fresh class (ClassObject named))) (words + more) literals class_objects'
+    → UpdatesBy nat_cmp (nat_cmp named.0) class_objects class_objects' (Some n) → IsKept (added heap (fresh class (ClassObject named))) (words + more) literals class_objects'
 class_object_kept heap words literals class_objects class_objects' class named n more kept absent size room next updates =
     let object = fresh class (ClassObject named) in
-    let may : MayAdd heap object = record { room = omega (arith, room, size); refers = refers_nowhere heap class (ClassObject named) refl } in
-    let put = λ (wanted : ClassNo).
-    updates.0 wanted.0 ∙ ap (λ (b : Bool). cond b (Some n) (get nat_cmp class_objects wanted.0)) (at_number named wanted)
-    ∙ ap (λ (m : ObjNo). cond (wanted.0 == named.0) (Some m) (get nat_cmp class_objects wanted.0)) next in
+    let may = class_object_may_add heap class named (omega (arith, room, size)) absent in
     record {
       sound = sound_added heap object kept.sound may;
       counted = omega (arith, kept.counted, size, words_added heap object);
       literals_found = λ wanted. kept.literals_found wanted ∙ sym (passed_over (is_literal wanted) heap object refl);
       class_objects_found = λ wanted.
-          found_added (is_class_object wanted) heap object (wanted.0 == named.0) (get nat_cmp class_objects wanted.0) (get nat_cmp class_objects' wanted.0) refl
-          (λ equal. subst (λ (c : ClassNo). IsNone (class_object_of heap c)) (sym (same_class wanted named (eqb-true wanted.0 named.0 equal))) absent) (kept.class_objects_found wanted) (put wanted);
+          let found = get nat_cmp class_objects wanted.0 in
+          let put : get nat_cmp class_objects' wanted.0 ≡ cond (wanted.0 == named.0) (Some (next_number heap)) found = updates.0 wanted.0 ∙ ap (λ (b : Bool). cond b (Some n) found) (at_number named wanted) ∙ ap (λ (m : ObjNo). cond (wanted.0 == named.0) (Some m) found) next in
+          found_added (is_class_object wanted) heap object (wanted.0 == named.0) found (get nat_cmp class_objects' wanted.0) refl (may.class_object wanted) (kept.class_objects_found wanted) put;
     }

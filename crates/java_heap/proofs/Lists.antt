@@ -1,5 +1,5 @@
 -- Lists of which one element is replaced or one is added at the end.
-use Rattle.std.proofs.Common.{◌≡◌, ℕ, ◌+◌, Bool, true, false, cond, List, [], ◌∷◌, ◌++◌, length, set, Option, Some, None, refl, sym, ap, ◌∙◌, arith, zero, suc}
+use Rattle.std.proofs.Common.{◌≡◌, ℕ, ◌+◌, Bool, true, false, cond, List, [], ◌∷◌, ◌++◌, length, set, Option, Some, None, refl, sym, ap, ◌∙◌, arith, zero, suc, ◌⊎◌, inl, inr, ⊎_elim}
 use Rattle.std.specs.Prelude.{slice_get, All}
 use Rattle.std.specs.List.{position_from}
 use Rattle.std.specs.Option.{option_or}
@@ -33,3 +33,17 @@ position_from_push p first (x ∷ xs) y =
     let e : first + 1 + length xs ≡ first + suc (length xs) = omega arith in
     found_or (p x) first (position_from p (first + 1) xs) _ _
     (position_from_push p (first + 1) xs y ∙ ap (λ (n : ℕ). option_or (position_from p (first + 1) xs) (cond (p y) (Some n) None)) e)
+
+-- what is found after one more at the end, or after a replacement, was found before or is the new one
+pub slice_get_push : {X : Type 0} (xs : List X) (y : X) (k : ℕ) (x : X) → slice_get (xs ++ y ∷ []) k ≡ Some x → (slice_get xs k ≡ Some x) ⊎ ((k ≡ length xs) × (x ≡ y))
+slice_get_push [] y zero x at = let e : x ≡ y = cc in inr (refl, e)
+slice_get_push [] y (suc k) x at = absurd cc
+slice_get_push (z ∷ xs) y zero x at = inl at
+slice_get_push (z ∷ xs) y (suc k) x at = ⊎_elim (λ before. inl before) (λ last. inr (ap (λ (n : ℕ). suc n) last.0, last.1)) (slice_get_push xs y k x at)
+
+pub slice_get_set : {X : Type 0} (xs : List X) (place : ℕ) (y : X) (k : ℕ) (x : X) → slice_get (set xs place y) k ≡ Some x → (slice_get xs k ≡ Some x) ⊎ ((k ≡ place) × (x ≡ y))
+slice_get_set [] place y k x at = inl at
+slice_get_set (z ∷ xs) zero y zero x at = let e : x ≡ y = cc in inr (refl, e)
+slice_get_set (z ∷ xs) zero y (suc k) x at = inl at
+slice_get_set (z ∷ xs) (suc place) y zero x at = inl at
+slice_get_set (z ∷ xs) (suc place) y (suc k) x at = ⊎_elim (λ before. inl before) (λ here. inr (ap (λ (n : ℕ). suc n) here.0, here.1)) (slice_get_set xs place y k x at)

@@ -1,7 +1,7 @@
 -- An object is put in the place of another: the heap stays sound, and its counter and its indices stay right.
-use Rattle.std.proofs.Common.{◌≡◌, ℕ, ◌+◌, ◌-◌, ◌<◌, ◌≤◌, Bool, List, ◌++◌, length, get_or, set, Option, Some, refl, sym, ap, ◌∙◌, subst, arith, length-append}
+use Rattle.std.proofs.Common.{◌≡◌, ℕ, ◌+◌, ◌-◌, ◌<◌, ◌≤◌, List, ◌++◌, length, get_or, set, Option, Some, refl, sym, ap, ◌∙◌, subst, arith, length-append}
 use Rattle.std.specs.Prelude.{slice_get, All, IfSome}
-use Rattle.std.specs.Option.{option_map, option_map_or}
+use Rattle.std.specs.Option.{option_map_or}
 use Rattle.std.proofs.lemmas.List.{length-set}
 use Rattle.std.proofs.lemmas.List.Elements.{All-weaker, All-set, All-nil}
 use Rattle.std.proofs.lemmas.List.Sums.{sum_by-set}
@@ -13,16 +13,13 @@ use Rattle.java_heap.specs.declared.object.Object.{Object}
 use Rattle.java_heap.specs.declared.object.Content.{Content}
 use Rattle.java_heap.specs.declared.object.Content.TheVariants.{Fields, Elements, Text}
 use Rattle.java_heap.specs.Objects.{words_of, values_of, is_literal, is_class_object}
-use Rattle.java_heap.specs.Heaps.{HeapValue, words_taken, first_number, IsThere, NamesThere, RefersThere, IsSound}
+use Rattle.java_heap.specs.Heaps.{HeapValue, words_taken, IsThere, NamesThere, RefersThere, IsSound}
 use Rattle.java_heap.specs.Changes.{with_changed, with_content}
 use Rattle.java_heap.specs.Kept.{LiteralIndex, ClassIndex, IsKept}
-use Rattle.java_heap.proofs.Lists.{All-slice_get, position_from-set}
+use Rattle.java_heap.proofs.Firsts.{replaced, first_number-replaced, only_replaced}
+use Rattle.java_heap.proofs.Lists.{All-slice_get}
 use Rattle.java_heap.proofs.Numbers.{object_at-place}
 use Rattle.java_heap.proofs.Sound.{refers_more}
-
--- the heap with an object in the place of another
-abbrev pub replaced : HeapValue → ℕ → Object → HeapValue
-replaced heap place now = record heap { objects = set heap.objects place now }
 
 -- an object may take the place of another: it takes `more` words than that, for which there is room, its references are there, and
 -- the same look-ups find it
@@ -44,10 +41,6 @@ words_replaced heap place was now more may =
     let taken : words_taken (replaced heap place now) + words_of (get_or heap.objects place was).content ≡ words_taken heap + words_of now.content = sum in
     omega (arith, taken, own, may.words)
 
-first_number-replaced : (test : Content → Bool) (heap : HeapValue) (place : ℕ) (was now : Object) → slice_get heap.objects place ≡ Some was → test now.content ≡ test was.content → first_number test (replaced heap place now) ≡ first_number test heap
-first_number-replaced test heap place was now at same =
-    ap (λ (n : Option ℕ). option_map (λ (k : ℕ). let number : ObjNo = record { 0 = k } in number) n) (position_from-set (λ (o : Object). test o.content) 1 heap.objects place was now at same)
-
 sound_replaced : (heap : HeapValue) (place : ℕ) (was now : Object) (more : ℕ) → IsSound heap → MayReplace heap place was now more → IsSound (replaced heap place now)
 sound_replaced heap place was now more sound may =
     let as_many : length heap.objects ≤ length (set heap.objects place now) = omega (arith, length-set heap.objects place now) in
@@ -58,6 +51,8 @@ sound_replaced heap place was now more sound may =
       refers =
           All-set (RefersThere (replaced heap place now)) heap.objects place now (refers now may.refers)
           (All-weaker (RefersThere heap) (RefersThere (replaced heap place now)) refers heap.objects sound.refers);
+      literals = λ units. only_replaced (is_literal units) heap place was now may.at (may.literal units) (sound.literals units);
+      class_objects = λ class. only_replaced (is_class_object class) heap place was now may.at (may.class_object class) (sound.class_objects class);
     }
 
 pub kept_replaced : (heap : HeapValue) (words : ℕ) (literals : LiteralIndex) (class_objects : ClassIndex) (place : ℕ) (was now : Object) (more : ℕ) → IsKept heap words literals class_objects → MayReplace heap place was now more → (total : ℕ) → total ≡ words + more → IsKept (replaced heap place now) total literals class_objects

@@ -39,14 +39,16 @@ GivesOnce None old new object result = Allocates old new object result
 abbrev pub with_changed : HeapValue → ObjNo → (Object → Object) → HeapValue
 with_changed heap n change = record heap { objects = option_map_or (λ o. slice_set heap.objects (n.0 - 1) (change o)) (object_at heap n) heap.objects }
 
+-- the same, of what the object holds
 abbrev pub with_content : HeapValue → ObjNo → (Content → Content) → HeapValue
 with_content heap n change = with_changed heap n (λ o. record o { content = change o.content })
 
--- a value put at a place of an instance's fields, or of an array's elements
+-- a value put at a place of an instance's fields
 abbrev pub put_field : ℕ → Value → Content → Content
 put_field place value (Fields values) = Fields (slice_set values place value)
 put_field place value content = content
 
+-- a value put at a place of an array's elements
 abbrev pub put_elem : ℕ → Value → Content → Content
 put_elem place value (Elements values) = Elements (slice_set values place value)
 put_elem place value content = content
@@ -56,15 +58,18 @@ abbrev pub put_behind : List ℕ → Content → Content
 put_behind more (Text units) = Text (units ++ more)
 put_behind more content = content
 
--- the heap with another field, another element, another reference at an object's side, and more units of a text
+-- the heap with another value in a field
 abbrev pub with_field : HeapValue → ObjNo → ℕ → Value → HeapValue
 with_field heap n place value = with_content heap n (put_field place value)
 
+-- the heap with another value in an element
 abbrev pub with_elem : HeapValue → ObjNo → ℕ → Value → HeapValue
 with_elem heap n place value = with_content heap n (put_elem place value)
 
+-- the heap with another reference at an object's side
 abbrev pub with_side : HeapValue → ObjNo → Option ObjNo → HeapValue
 with_side heap n side = with_changed heap n (λ o. record o { side = side })
 
+-- the heap with more units in a text
 abbrev pub with_more : HeapValue → ObjNo → List ℕ → HeapValue
 with_more heap n units = with_content heap n (put_behind units)

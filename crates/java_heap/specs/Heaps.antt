@@ -1,5 +1,5 @@
 -- What a heap holds: JVM specification 2.5.3. Its objects have the numbers from 1 on, and nothing is collected.
-use Rattle.std.specs.Prelude.{ℕ, ◌+◌, ◌-◌, ◌^◌, ◌<◌, ◌≤◌, ◌==◌, Bool, if◌then◌else◌, ⊤, IsTrue, List, length, slice_get, sum_by, All, Option, None, IfSome, IsSomeAnd, option_map, option_and_then}
+use Rattle.std.specs.Prelude.{◌≡◌, ℕ, ◌+◌, ◌-◌, ◌^◌, ◌<◌, ◌≤◌, ◌==◌, Bool, if◌then◌else◌, ⊤, IsTrue, List, length, slice_get, sum_by, All, Option, Some, None, IfSome, IsSomeAnd, option_map, option_and_then}
 use Rattle.std.specs.List.{position_from}
 use Rattle.ti_ids.specs.declared.number.ClassNo.{ClassNo}
 use Rattle.ti_ids.specs.declared.number.ObjNo.{ObjNo}
@@ -32,20 +32,23 @@ IsThere heap n = (0 < n.0) × (n.0 ≤ length heap.objects)
 abbrev pub object_at : HeapValue → ObjNo → Option Object
 object_at heap n = if n.0 == 0 then None else slice_get heap.objects (n.0 - 1)
 
--- its class, what it holds, and what stands at its side
+-- its class
 abbrev pub class_at : HeapValue → ObjNo → Option ClassNo
 class_at heap n = option_map (λ o. o.class) (object_at heap n)
 
+-- what it holds
 abbrev pub content_at : HeapValue → ObjNo → Option Content
 content_at heap n = option_map (λ o. o.content) (object_at heap n)
 
+-- what stands at its side
 abbrev pub side_at : HeapValue → ObjNo → Option (Option ObjNo)
 side_at heap n = option_map (λ o. o.side) (object_at heap n)
 
--- the field at a place of an instance, and the element at a place of an array
+-- the field at a place of an instance
 abbrev pub field_at : HeapValue → ObjNo → ℕ → Option Value
 field_at heap n place = option_and_then (λ values. slice_get values place) (option_and_then fields_of (content_at heap n))
 
+-- the element at a place of an array
 abbrev pub elem_at : HeapValue → ObjNo → ℕ → Option Value
 elem_at heap n place = option_and_then (λ values. slice_get values place) (option_and_then elements_of (content_at heap n))
 
@@ -79,6 +82,10 @@ literal_of heap units = first_number (is_literal units) heap
 abbrev pub class_object_of : HeapValue → ClassNo → Option ObjNo
 class_object_of heap class = first_number (is_class_object class) heap
 
+-- an object whose content passes is the first one, so that there is one at most
+abbrev pub IsOnly : (Content → Bool) → HeapValue → Type 0
+IsOnly test heap = (n : ObjNo) (object : Object) → object_at heap n ≡ Some object → IsTrue (test object.content) → first_number test heap ≡ Some n
+
 -- ---- references: JVM specification 2.4
 
 -- a value that is a reference is null or names an object that is there
@@ -92,8 +99,10 @@ pub record RefersThere (heap : HeapValue) (object : Object) : Type 0 where
   pub values : All (NamesThere heap) (values_of object.content)
   pub side : IfSome object.side (IsThere heap)
 
--- what each heap keeps
+-- what each heap keeps: its words, its references, one String for each constant and one Class object for each class
 pub record IsSound (heap : HeapValue) : Type 0 where
   pub limited : heap.limit < 2 ^ 32
   pub within : words_taken heap ≤ heap.limit
   pub refers : All (RefersThere heap) heap.objects
+  pub literals : (units : List ℕ) → IsOnly (is_literal units) heap
+  pub class_objects : (class : ClassNo) → IsOnly (is_class_object class) heap

@@ -64,11 +64,3 @@ is_text _ = false
 -- a StringBuilder
 abbrev pub is_builder : Object → Bool
 is_builder object = object.class.0 == STRING_BUILDER.0 && is_text object.content
-
--- one of the objects of which there may be many alike
-abbrev pub is_plain : Content → Bool
-is_plain (Fields values) = true
-is_plain (Elements values) = true
-is_plain (Text units) = true
-is_plain (Literal units) = false
-is_plain (ClassObject class) = false

@@ -1,6 +1,7 @@
 //! New objects, and more units of a StringBuilder. Each takes heap words, or is refused.
 ghost use Rattle.std.specs.Prelude.{◌≡◌, ◌+◌, ◌<◌, ◌≤◌, ◌↔◌, [], ◌∷◌, ◌++◌, All, Err, IfOk, IsNone, IsTrue, OnErr, OnOk, MatchResult, length, replicate, vec_capacity, vec_len};
-ghost use Rattle.java_heap.specs.Objects.{fresh, words_of, is_plain};
+ghost use Rattle.java_heap.specs.Objects.{fresh, words_of};
+ghost use Rattle.java_heap.specs.Kept.{is_plain};
 ghost use Rattle.java_heap.specs.Heaps.{words_taken, next_number, NamesThere, RefersThere, IsBuilder};
 ghost use Rattle.java_heap.specs.Changes.{PassesLimit, Adds, with_more};
 
