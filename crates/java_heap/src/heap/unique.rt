@@ -1,5 +1,5 @@
 //! Objects of which there is one each: the String of a constant, and the Class object of a class (JVM specification 5.1).
-ghost use Rattle.std.specs.Prelude.{◌≡◌, ◌+◌, ◌<◌, ◌≤◌, [], ◌∷◌, ◌++◌, IfOk, IsNone, OnErr, vec_capacity, vec_len};
+ghost use Rattle.std.specs.Prelude.{◌≡◌, ◌+◌, ◌≤◌, IfOk, IsNone, OnErr};
 ghost use Rattle.java_heap.specs.Objects.{fresh, words_of};
 ghost use Rattle.java_heap.specs.Heaps.{words_taken, literal_of, class_object_of};
 ghost use Rattle.java_heap.specs.Changes.{Adds, GivesOnce};
@@ -10,17 +10,6 @@ use crate::{CLASS, Content, HeapFault, Object, STRING};
 use jv_names::Units;
 use std::alloc::AllocError;
 use ti_ids::{ClassNo, ObjNo};
-
-/// Puts an object behind the others, for which memory was taken before.
-fn push_reserved(objects: &mut Vec<Object>, object: Object)
-    requires { vec_len objects.old < vec_capacity objects.old }
-    ensures { objects.new.items ≡ objects.old.items ++ object ∷ [] }
-{
-    match objects.push(object) {
-        Ok(()) => (),
-        Err(_) => unreachable!(),
-    }
-}
 
 impl Heap {
     /// The String of the constant of these units, which is made at the first call.
@@ -72,7 +61,7 @@ impl Heap {
         let object = Object::fresh(STRING, Content::Literal(units.clone_in(self.alloc)?));
         self.objects.reserve(1)?;
         self.literals.insert(key, number)?;
-        push_reserved(&mut self.objects, object);
+        self.objects.push_reserved(object);
         self.words += words;
         Ok(number)
     }
@@ -89,7 +78,7 @@ impl Heap {
         let object = Object::fresh(CLASS, Content::ClassObject(class));
         self.objects.reserve(1)?;
         self.class_objects.insert(class.0, number)?;
-        push_reserved(&mut self.objects, object);
+        self.objects.push_reserved(object);
         self.words += words;
         Ok(number)
     }

@@ -13,7 +13,7 @@ invariant_of-self-2 c =
     let room = subst (λ (heap : HeapValue). words_taken heap + c.args.words ≤ heap.limit) (sym c.self.view_is) c.requires.room in
     let next = c.next_number-number.ensures ∙ ap next_number (sym c.self.view_is) in
     let objects =
-    c.push_reserved.ensures ∙ ap (λ (os : List Object). os ++ c.fresh-object.result ∷ []) c.in_ok-reserve.ensures.items
+    c.push_reserved.ensures.items ∙ ap (λ (os : List Object). os ++ c.fresh-object.result ∷ []) c.in_ok-reserve.ensures.items
     ∙ ap (λ (o : Object). c.self.inside.objects.items ++ o ∷ []) c.fresh-object.ensures in
     rw objects
     (class_object_kept (seen c.self.inside) c.self.inside.words c.self.inside.literals c.self.inside.class_objects c.insert.new.self CLASS c.args.class c.next_number-number.result c.args.words c.self.invariant absent c.requires.words room next c.in_ok-insert.ensures.updates)

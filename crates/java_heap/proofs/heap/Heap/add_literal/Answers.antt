@@ -16,7 +16,7 @@ invariant_of-self-2 c =
     let next = c.next_number-number.ensures ∙ ap next_number (sym c.self.view_is) in
     let object = c.fresh-object.ensures ∙ ap (λ (units : List ℕ). fresh STRING (Literal units)) c.in_ok-clone_in.ensures in
     let objects =
-    c.push_reserved.ensures ∙ ap (λ (os : List Object). os ++ c.fresh-object.result ∷ []) c.in_ok-reserve.ensures.items
+    c.push_reserved.ensures.items ∙ ap (λ (os : List Object). os ++ c.fresh-object.result ∷ []) c.in_ok-reserve.ensures.items
     ∙ ap (λ (o : Object). c.self.inside.objects.items ++ o ∷ []) object in
     let key = c.in_ok-key.ensures.items ∙ c.as_slice.ensures in
     rw objects
