@@ -9,3 +9,4 @@ pub mod FaultLaws
 pub mod Indices
 pub mod ContentLaws
 pub mod NeverMemory
+pub mod Stays
