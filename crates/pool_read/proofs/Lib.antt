@@ -6,3 +6,5 @@ pub mod Places
 pub mod PoolSizes
 pub mod TextPlaces
 pub mod NeverMemory
+pub mod Stays
+pub mod TextFaults

@@ -1,3 +1,4 @@
 pub mod PoolReading
 pub mod TextRoles
 pub mod Ranks
+pub mod TextLaws

@@ -3,6 +3,7 @@
 #![tactic(auto)]
 
 mod entry;
+mod laws;
 mod pool;
 mod ranks;
 mod references;
@@ -11,4 +12,5 @@ mod roles;
 mod tests;
 mod text;
 
+pub use laws::text_laws;
 pub use pool::{Pool, pool_at};
