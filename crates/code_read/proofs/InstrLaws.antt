@@ -28,7 +28,7 @@ use Rattle.class_reading.proofs.FaultLaws.{unless_holds, faultless_of}
 abbrev pub are_met : ℕ → List Const → Pairs → Bool
 are_met major pool list = list_all (λ p. is_met major pool (pool_use p.1)) list
 
-each_byte : (bytes : List ℕ) → are_bytes bytes ≡ true → IsBytes bytes
+pub each_byte : (bytes : List ℕ) → are_bytes bytes ≡ true → IsBytes bytes
 each_byte [] are = tt
 each_byte (b ∷ bytes) are = let p = and_parts (is_byte b) _ are in (ltb-true b 256 p.0, each_byte bytes p.1)
 
@@ -39,13 +39,13 @@ stopped_ok end cut at (Ok y) x e = cc
 stopped_ok end cut at (Err why) x e = cc
 
 -- an instruction that stands at the front, and its index
-record InstrStands (major : ℕ) (pool : List Const) (pc : ℕ) (bytes : List ℕ) (x : Instr × List ℕ) : Type 0 where
-  read : instr_at pc bytes ≡ Ok x
-  met : is_met major pool (pool_use x.0) ≡ true
-  left : are_bytes x.1 ≡ true
-  shorter : length x.1 < length bytes
+pub record InstrStands (major : ℕ) (pool : List Const) (pc : ℕ) (bytes : List ℕ) (x : Instr × List ℕ) : Type 0 where
+  pub read : instr_at pc bytes ≡ Ok x
+  pub met : is_met major pool (pool_use x.0) ≡ true
+  pub left : are_bytes x.1 ≡ true
+  pub shorter : length x.1 < length bytes
 
-instr_sound : (major : ℕ) (pool : List Const) (end : ℕ) (cut : Bool) (at pc : ℕ) (bytes : List ℕ) (x : Instr × List ℕ) → are_bytes bytes ≡ true → instr_of major pool end cut at pc bytes ≡ Ok x → InstrStands major pool pc bytes x
+pub instr_sound : (major : ℕ) (pool : List Const) (end : ℕ) (cut : Bool) (at pc : ℕ) (bytes : List ℕ) (x : Instr × List ℕ) → are_bytes bytes ≡ true → instr_of major pool end cut at pc bytes ≡ Ok x → InstrStands major pool pc bytes x
 instr_sound major pool end cut at pc bytes x are e =
     let s = steps_of _ (λ b. or_stopped end cut at (instr_at pc b)) x e in
     let p = faultless_of (index_fault major pool (at + 1) bytes) bytes s.value s.first in
@@ -59,7 +59,7 @@ instr_sound major pool end cut at pc bytes x are e =
       shorter = omega (arith, ap length front.0, length-append (spelling x.0) x.1, has_first x.0 front.1);
     }
 
-instr_complete : (major : ℕ) (pool : List Const) (end : ℕ) (cut : Bool) (at pc : ℕ) (bytes : List ℕ) (x : Instr × List ℕ) → are_bytes bytes ≡ true → instr_at pc bytes ≡ Ok x → is_met major pool (pool_use x.0) ≡ true → instr_of major pool end cut at pc bytes ≡ Ok x
+pub instr_complete : (major : ℕ) (pool : List Const) (end : ℕ) (cut : Bool) (at pc : ℕ) (bytes : List ℕ) (x : Instr × List ℕ) → are_bytes bytes ≡ true → instr_at pc bytes ≡ Ok x → is_met major pool (pool_use x.0) ≡ true → instr_of major pool end cut at pc bytes ≡ Ok x
 instr_complete major pool end cut at pc bytes x are read met =
     let front = instr_found pc bytes x.0 x.1 (each_byte bytes are) read in
     let used : pool_use_at bytes ≡ pool_use x.0 = use_of_whole x.0 bytes x.1 front.1 front.0 in

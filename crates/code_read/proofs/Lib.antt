@@ -4,3 +4,7 @@ pub mod ArrayLaws
 pub mod CodeLaws
 pub mod CodeSteps
 pub mod NeverMemory
+pub mod OperandStays
+pub mod InstrStays
+pub mod Stays
+pub mod CodeFaults

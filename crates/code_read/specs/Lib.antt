@@ -1,2 +1,3 @@
 pub mod FrameReading
 pub mod CodeReading
+pub mod CodeLaws

@@ -6,5 +6,7 @@ mod code_attrs;
 mod frames;
 mod handlers;
 mod instrs;
+mod laws;
 
 pub use body::code;
+pub use laws::code_laws;
