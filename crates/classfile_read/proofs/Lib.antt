@@ -8,3 +8,4 @@ pub mod Repeats
 pub mod MemberLists
 pub mod ClassExamples
 pub mod NeverMemory
+pub mod Stays

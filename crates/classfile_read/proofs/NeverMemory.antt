@@ -1,5 +1,5 @@
 -- Reading a class file never finds that memory ran out.
-use Rattle.std.proofs.Common.{ℕ, zero, suc, Bool, List, [], ◌∷◌, length, Option, Some, None, Err}
+use Rattle.std.proofs.Common.{ℕ, zero, suc, List, [], ◌∷◌, length, Option, Some, None, Err}
 use Rattle.std.specs.Prelude.{◌≢◌, not}
 use Rattle.jv_names.specs.Names.{Name, is_class_name}
 use Rattle.class_tree.specs.declared.access.Flag.TheVariants.{Native}

@@ -1,12 +1,12 @@
 -- The laws of the grammar of class files (JVM specification, chapter 4): of trees and the bytes that spell them, and of what is
 -- found in bytes.
-use Rattle.std.specs.Prelude.{◌≡◌, ◌≢◌, ◌⊎◌, ℕ, true, List, Ok, Err}
+use Rattle.std.specs.Prelude.{◌≡◌, ◌≢◌, ◌⊎◌, ℕ, ◌<◌, true, List, ◌++◌, length, Ok, Err}
 use Rattle.class_tree.specs.Ranges.{are_bytes}
 use Rattle.class_tree.specs.Spelling.{class_bytes}
 use Rattle.class_tree.specs.Trees.{Tree}
 use Rattle.class_tree.specs.WellFormed.{is_well_formed}
 use Rattle.class_reading.specs.declared.fault.ReadClassFault.{ReadClassFault}
-use Rattle.class_reading.specs.declared.fault.ReadClassFault.TheVariants.{Memory}
+use Rattle.class_reading.specs.declared.fault.ReadClassFault.TheVariants.{Truncated, Trailing, Memory}
 use Rattle.classfile_read.specs.ClassReading.{class_of}
 use Rattle.classfile_read.specs.Lawful.{Spells, FirstFault}
 
@@ -41,3 +41,20 @@ WrittenBack = (bytes : List ℕ) (t : Tree) → are_bytes bytes ≡ true → cla
 -- It is never found that memory ran out.
 abbrev pub NoMemory : Type 0
 NoMemory = (bytes : List ℕ) → class_of bytes ≢ Err Memory
+
+-- What shows in bytes doesn't depend on what follows them: their first fault is that of each file that begins with them, unless it
+-- says that they are cut off. So a file's fault shows in each of its fronts that is long enough.
+abbrev pub ShowsAtOnce : Type 0
+ShowsAtOnce = (bytes more : List ℕ) (fault : ReadClassFault) → FirstFault bytes fault → fault ≢ Truncated (length bytes) → FirstFault (bytes ++ more) fault
+
+-- A front of a file that has a fault has the same one, or is cut off, or is a class file, behind which bytes follow.
+abbrev pub ShowsInFronts : Type 0
+ShowsInFronts = (bytes more : List ℕ) (fault : ReadClassFault) → are_bytes bytes ≡ true → FirstFault (bytes ++ more) fault → FirstFault bytes fault ⊎ FirstFault bytes (Truncated (length bytes)) ⊎ ((t : Tree) × Spells t bytes)
+
+-- A front of a class file that isn't all of it is cut off.
+abbrev pub FrontsAreCut : Type 0
+FrontsAreCut = (t : Tree) (bytes more : List ℕ) → Spells t (bytes ++ more) → 0 < length more → FirstFault bytes (Truncated (length bytes))
+
+-- Bytes behind a class file are trailing.
+abbrev pub BehindIsTrailing : Type 0
+BehindIsTrailing = (t : Tree) (bytes more : List ℕ) → Spells t bytes → 0 < length more → FirstFault (bytes ++ more) (Trailing (length bytes))

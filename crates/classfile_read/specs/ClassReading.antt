@@ -4,7 +4,6 @@ use Rattle.std.specs.List.{list_any}
 use Rattle.std.specs.Option.{option_map}
 use Rattle.jv_names.specs.Names.{Name, is_class_name}
 use Rattle.class_tree.specs.declared.access.Flag.TheVariants.{Native}
-use Rattle.class_tree.specs.declared.access.Flags.{Flags}
 use Rattle.class_tree.specs.declared.pool.Const.{Const}
 use Rattle.class_tree.specs.declared.members.Member.{Member}
 use Rattle.class_tree.specs.declared.members.Attr.{Attr}
@@ -14,7 +13,6 @@ use Rattle.class_tree.specs.Tree.{entry_at, class_at}
 use Rattle.class_tree.specs.Trees.{Tree}
 use Rattle.class_tree.specs.PoolRules.{is_name, desc_flaw}
 use Rattle.class_tree.specs.WellFormed.{Owner, Class, Method, Field, StaticField, is_read, is_value, owner_of, has_its_body, is_version}
-use Rattle.class_reading.specs.declared.fault.ReadClassFault.{ReadClassFault}
 use Rattle.class_reading.specs.declared.fault.ReadClassFault.TheVariants.{Magic, Version, Trailing, BadIndex, BadText, BadMember, Unsupported, Duplicate}
 use Rattle.class_reading.specs.Reading.{Found, Checked, ◌>>=◌, FaultOf, unless, faultless, provided, offset, u2, u4, counted}
 use Rattle.pool_read.specs.PoolReading.{text_fault, pool_at}

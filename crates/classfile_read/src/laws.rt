@@ -1,4 +1,4 @@
-ghost use Rattle.classfile_read.specs.ClassLaws.{OneTree, OneSpelling, IsSpelled, TreeOrFault, NotBoth, ReadBack, WrittenBack, NoMemory};
+ghost use Rattle.classfile_read.specs.ClassLaws.{OneTree, OneSpelling, IsSpelled, TreeOrFault, NotBoth, ReadBack, WrittenBack, NoMemory, ShowsAtOnce, ShowsInFronts, FrontsAreCut, BehindIsTrailing};
 
 /// Does nothing, and is there for its contract: the laws of the grammar of class files (chapter 4), which hold of all bytes and
 /// trees. The contracts of reading and writing speak of that grammar.
@@ -26,4 +26,16 @@ pub fn class_file_laws()
 
     // Reading never finds that memory ran out.
     ensures no_memory { NoMemory }
+
+    // The first fault of bytes is that of each file that begins with them, unless it says that they are cut off.
+    ensures at_once { ShowsAtOnce }
+
+    // A front of a file that has a fault has the same one, or is cut off, or is a class file.
+    ensures in_fronts { ShowsInFronts }
+
+    // A front of a class file that isn't all of it is cut off.
+    ensures cut { FrontsAreCut }
+
+    // Bytes behind a class file are trailing.
+    ensures trailing { BehindIsTrailing }
 {}
