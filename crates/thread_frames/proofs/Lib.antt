@@ -1,0 +1,4 @@
+pub mod OperandWords
+pub mod MapViews
+pub mod StackChanges
+pub mod StackReads

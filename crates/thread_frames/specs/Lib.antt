@@ -1,0 +1,5 @@
+pub mod Operands
+pub mod Frame
+pub mod ThreadStack
+pub mod Stacks
+pub mod StackLaws

@@ -1,0 +1,146 @@
+ghost use Rattle.std.specs.Prelude.{◌≡◌, ◌≤◌, ◌↔◌, IsTrue, IfOk, [], length, slice_get};
+ghost use Rattle.thread_frames.specs.Operands.{words_of, Fits, value_words, empty_stack, with_pushed, without_top};
+
+use std::alloc::{AllocError, Global};
+use std::marker::Model;
+use ti_ids::Value;
+
+/// An operand stack, which contracts see as its entries, the top first, and its room in words. The memory for its room is
+/// taken when it is made, so that a push takes none.
+#[derive(Drop)]
+pub struct Operands {
+    values: Vec<Value>,
+    room: u32,
+    words: u32,
+}
+
+impl Model for Operands {
+    ghost use Rattle.std.specs.Prelude.{reverse};
+    ghost use Rattle.thread_frames.specs.Operands.{OperandStack, HoldsRoom};
+
+    ghost Value = { OperandStack };
+
+    ghost view = { λ s. record { entries = reverse s.values.items; room = s.room } };
+
+    ghost invariant = { λ s. HoldsRoom s.values s.room s.words };
+}
+
+/// The words of one value.
+fn words_of_value(value: Value) -> u32
+    ensures { result ≡ value_words value }
+{
+    match value {
+        Value::Long(_) => 2,
+        _ => 1,
+    }
+}
+
+impl Operands {
+    /// An empty stack with room for so many words.
+    pub fn new(alloc: Global, room: u32) -> Result<Operands, AllocError>
+        ensures { IfOk result (λ stack. stack ≡ empty_stack room) }
+    {
+        Ok(Operands {
+            values: Vec::with_capacity(alloc, room as usize)?,
+            room,
+            words: 0,
+        })
+    }
+
+    /// Whether there is room for a value on top.
+    pub fn fits(&self, value: Value) -> bool
+        ensures { IsTrue result ↔ Fits self.now value }
+    {
+        words_of_value(value) <= self.room - self.words
+    }
+
+    /// Puts a value on top.
+    #[tactic(auto, using(crate::proofs::OperandWords::held_within))]
+    pub fn push(&mut self, value: Value)
+        requires { Fits self.old value }
+        ensures { self.new ≡ with_pushed self.old value }
+    {
+        self.words += words_of_value(value);
+        self.values.push_reserved(value);
+    }
+
+    /// Takes the top away.
+    pub fn pop(&mut self) -> Option<Value>
+        ensures taken { result ≡ slice_get self.old.entries 0 }
+        ensures rest { self.new ≡ without_top self.old }
+    {
+        let value = self.values.pop()?;
+        self.words -= words_of_value(value);
+        Some(value)
+    }
+
+    /// The top.
+    pub fn top(&self) -> Option<Value>
+        ensures { result ≡ slice_get self.now.entries 0 }
+    {
+        self.values.last().copied()
+    }
+
+    /// The entry so many below the top, which is that below none.
+    pub fn get(&self, depth: usize) -> Option<Value>
+        ensures { result ≡ slice_get self.now.entries depth }
+    {
+        let count = self.values.len();
+        if depth >= count {
+            return None;
+        }
+        Some(self.values[count - 1 - depth])
+    }
+
+    /// Takes all entries away.
+    pub fn clear(&mut self)
+        ensures { self.new ≡ empty_stack self.old.room }
+    {
+        self.values.clear();
+        self.words = 0;
+    }
+
+    /// How many entries there are.
+    pub fn len(&self) -> usize
+        ensures { result ≡ length self.now.entries }
+    {
+        self.values.len()
+    }
+
+    pub fn is_empty(&self) -> bool
+        ensures { IsTrue result ↔ (self.now.entries ≡ []) }
+    {
+        self.values.is_empty()
+    }
+
+    /// How many words the entries take.
+    pub fn words(&self) -> u32
+        ensures value { result ≡ words_of self.now.entries }
+        ensures within { result ≤ self.now.room }
+    {
+        self.words
+    }
+
+    /// How many words there is room for.
+    pub fn room(&self) -> u32
+        ensures { result ≡ self.now.room }
+    {
+        self.room
+    }
+
+    /// An equal stack, with room of its own.
+    #[tactic(auto, using(crate::proofs::OperandWords::held_within))]
+    pub fn clone_in(&self, alloc: Global) -> Result<Operands, AllocError>
+        ensures { IfOk result (λ copy. copy ≡ self.now) }
+    {
+        let mut values = Vec::with_capacity(alloc, self.room as usize)?;
+        if values.extend_from_slice(self.values.as_slice()).is_err() {
+            unreachable!();
+        }
+        Ok(Operands {
+            values,
+            room: self.room,
+            words: self.words,
+        })
+    }
+}
