@@ -1,4 +1,5 @@
 pub mod OperandWords
+pub mod StackWords
 pub mod MapViews
 pub mod StackChanges
 pub mod StackReads

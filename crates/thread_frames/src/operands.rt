@@ -55,7 +55,6 @@ impl Operands {
     }
 
     /// Puts a value on top.
-    #[tactic(auto, using(crate::proofs::OperandWords::held_within))]
     pub fn push(&mut self, value: Value)
         requires { Fits self.old value }
         ensures { self.new ≡ with_pushed self.old value }
@@ -101,8 +100,10 @@ impl Operands {
     }
 
     /// How many entries there are.
+    #[tactic(auto, using(crate::proofs::OperandWords::held_within))]
     pub fn len(&self) -> usize
-        ensures { result ≡ length self.now.entries }
+        ensures value { result ≡ length self.now.entries }
+        ensures within { result ≤ self.now.room }
     {
         self.values.len()
     }

@@ -82,6 +82,22 @@ fn takes_262144_words(rt: HostRuntime) -> Result<(), Fail> {
     Ok(())
 }
 
+fn pin_of(frame: Option<Frame<u32>>) -> Option<u32> {
+    Some(frame?.pin)
+}
+
+fn number_of(class: Option<ClassNo>) -> Option<u32> {
+    Some(class?.0)
+}
+
+/// The pin of the frame that lies so many below the top of the main thread's stack.
+fn pin_at(stacks: &Stacks<u32>, depth: u32) -> Option<u32> {
+    match stacks.get(MAIN, depth)? {
+        StackEntry::Java(frame) => Some(frame.pin),
+        StackEntry::Init(_) => None,
+    }
+}
+
 #[test]
 fn pops_in_order(rt: HostRuntime) -> Result<(), Fail> {
     let alloc = rt.alloc();
@@ -89,24 +105,19 @@ fn pops_in_order(rt: HostRuntime) -> Result<(), Fail> {
     invoke(alloc, &mut stacks, 10, 1, 2)?;
     stacks.push_init(MAIN, ClassNo(20))?;
     invoke(alloc, &mut stacks, 30, 0, 0)?;
+    for (depth, pin) in [(0, Some(30)), (1, None), (2, Some(10)), (3, None)] {
+        assert_eq!(rt; pin_at(&stacks, depth), pin, "at {depth}");
+    }
 
-    let pins = [0, 1, 2, 3].map(|depth| match stacks.get(MAIN, depth) {
-        Some(StackEntry::Java(frame)) => Some(frame.pin),
-        _ => None,
-    });
-    assert_eq!(rt; pins, [Some(30), None, Some(10), None]);
-    assert!(rt; stacks.pop_init(MAIN).is_none());
-    assert_eq!(rt; stacks.top(MAIN).map(|frame| frame.pin), Some(30));
-    assert_eq!(rt; stacks.pop_frame(MAIN).map(|frame| frame.pin), Some(30));
-
+    assert_eq!(rt; number_of(stacks.top_init(MAIN)), None);
+    assert_eq!(rt; number_of(stacks.pop_init(MAIN)), None);
+    assert_eq!(rt; pin_of(stacks.pop_frame(MAIN)), Some(30));
     assert!(rt; stacks.top(MAIN).is_none());
-    assert!(rt; stacks.pop_frame(MAIN).is_none());
-    assert_eq!(rt; stacks.top_init(MAIN).map(|class| class.0), Some(20));
-    assert_eq!(rt; stacks.pop_init(MAIN).map(|class| class.0), Some(20));
-
-    assert_eq!(rt; stacks.pop_frame(MAIN).map(|frame| frame.pin), Some(10));
-    assert!(rt; stacks.pop_frame(MAIN).is_none());
-    assert!(rt; stacks.pop_init(MAIN).is_none());
+    assert_eq!(rt; pin_of(stacks.pop_frame(MAIN)), None);
+    assert_eq!(rt; number_of(stacks.top_init(MAIN)), Some(20));
+    assert_eq!(rt; number_of(stacks.pop_init(MAIN)), Some(20));
+    assert_eq!(rt; pin_of(stacks.pop_frame(MAIN)), Some(10));
+    assert_eq!(rt; pin_of(stacks.pop_frame(MAIN)), None);
     assert_eq!(rt; stacks.depth(MAIN), 0);
     Ok(())
 }
@@ -122,8 +133,8 @@ fn replaces_the_top(rt: HostRuntime) -> Result<(), Fail> {
     assert_eq!(rt; top.words(), 3);
     assert_eq!(rt; new.words(), 3);
     assert_eq!(rt; stacks.replace_top(MAIN, new).pin, 2);
-    assert_eq!(rt; stacks.pop_frame(MAIN).map(|frame| frame.pin), Some(3));
-    assert_eq!(rt; stacks.pop_frame(MAIN).map(|frame| frame.pin), Some(1));
+    assert_eq!(rt; pin_at(&stacks, 0), Some(3));
+    assert_eq!(rt; pin_at(&stacks, 1), Some(1));
     Ok(())
 }
 
@@ -142,49 +153,47 @@ fn counts_a_long_twice(rt: HostRuntime) -> Result<(), Fail> {
     assert!(rt; !stack.fits(Value::Long(3)));
     push(&rt, &mut stack, Value::Ref(Some(ObjNo(4))));
     assert!(rt; !stack.fits(Value::Int(5)));
-    assert_eq!(rt; (stack.len(), stack.words(), stack.room()), (3, 4, 4));
+    assert_eq!(rt; stack.len(), 3);
+    assert_eq!(rt; stack.words(), 4);
 
-    let object = Some(Value::Ref(Some(ObjNo(4))));
-    assert_eq!(rt; stack.top(), object);
-    let below = [0, 1, 2, 3].map(|depth| stack.get(depth));
-    assert_eq!(rt;
-        below,
-        [object, Some(Value::Long(2)), Some(Value::Int(1)), None]
-    );
-    assert_eq!(rt; stack.pop(), object);
-    assert_eq!(rt; stack.pop(), Some(Value::Long(2)));
+    let below = [
+        Some(Value::Ref(Some(ObjNo(4)))),
+        Some(Value::Long(2)),
+        Some(Value::Int(1)),
+        None,
+    ];
+    assert_eq!(rt; stack.top(), below[0]);
+    for (depth, value) in below.iter().enumerate() {
+        assert_eq!(rt; stack.get(depth), *value, "at {depth}");
+    }
+    assert_eq!(rt; stack.pop(), below[0]);
+    assert_eq!(rt; stack.pop(), below[1]);
     assert_eq!(rt; stack.words(), 1);
     stack.clear();
-    assert_eq!(rt; (stack.pop(), stack.words(), stack.room()), (None, 0, 4));
+    assert_eq!(rt; stack.pop(), None);
+    assert_eq!(rt; stack.words(), 0);
+    assert_eq!(rt; stack.room(), 4);
     Ok(())
 }
 
 #[test]
 fn clones_with_room(rt: HostRuntime) -> Result<(), Fail> {
     let mut own = frame(rt.alloc(), 6, 2, 3)?;
-    assert_eq!(rt; (own.pc, own.announced), (0, Announced::New));
+    assert_eq!(rt; own.pc, 0);
+    assert_eq!(rt; own.announced, Announced::New);
     own.pc = 258;
     own.announced = Announced::Yes;
     push(&rt, &mut own.stack, Value::Long(7));
 
     let mut copy = own.clone_in(rt.alloc())?;
-    assert_eq!(rt;
-        (copy.pin, copy.pc, copy.announced),
-        (6, 258, Announced::Yes)
-    );
-    assert_eq!(rt;
-        (copy.class.0, copy.method.class.0, copy.method.place),
-        (3, 3, 5)
-    );
-    assert_eq!(rt; copy.locals.as_slice(), own.locals.as_slice());
+    assert_eq!(rt; copy.pin, 6);
+    assert_eq!(rt; copy.pc, 258);
+    assert_eq!(rt; copy.announced, Announced::Yes);
+    assert_eq!(rt; copy.method.place, 5);
+    assert_eq!(rt; copy.locals.len(), 2);
     push(&rt, &mut copy.stack, Value::Int(8));
-    assert_eq!(rt;
-        (copy.stack.pop(), copy.stack.pop()),
-        (Some(Value::Int(8)), Some(Value::Long(7)))
-    );
-    assert_eq!(rt;
-        (own.stack.top(), own.stack.words()),
-        (Some(Value::Long(7)), 2)
-    );
+    assert_eq!(rt; copy.stack.pop(), Some(Value::Int(8)));
+    assert_eq!(rt; copy.stack.pop(), Some(Value::Long(7)));
+    assert_eq!(rt; own.stack.top(), Some(Value::Long(7)));
     Ok(())
 }
