@@ -15,6 +15,13 @@ const ADD: &[u8] =
     \x00\x01\x00\x09\x00\x05\x00\x06\x00\x01\x00\x07\x00\x00\x00\x16\x00\x03\x00\x01\x00\x00\x00\
     \x0a\xb2\x00\x0d\x05\x06\x60\xb6\x00\x13\xb1\x00\x00\x00\x00\x00\x00";
 
+/// Where the number of its methods ends, where its method begins, and where it ends.
+const METHODS_AT: usize = 205;
+
+const METHOD_AT: usize = 206;
+
+const METHOD_END: usize = 242;
+
 /// Where its instruction `iadd` stands.
 const IADD_AT: usize = 233;
 
@@ -37,6 +44,8 @@ enum Held {
     Front(usize),
     /// One byte more than the class.
     Longer,
+    /// The class, with its method twice.
+    MethodTwice,
     /// One byte more than a class file may have.
     TooLong,
     /// There is no file.
@@ -178,6 +187,13 @@ fn bytes_of(alloc: Global, held: Held) -> Result<Option<Vec<u8>>, AllocError> {
         }
         Held::Front(count) => bytes.truncate(count),
         Held::Longer => bytes.push(0)?,
+        Held::MethodTwice => {
+            if let Some(count) = bytes.get_mut(METHODS_AT) {
+                *count = 2;
+            }
+            bytes.truncate(METHOD_END);
+            bytes.extend_from_slice(&ADD[METHOD_AT..])?;
+        }
         Held::TooLong => return Ok(Some(vec![in alloc; 0u8; 1_048_577]?)),
         Held::Nothing => return Ok(None),
     }
@@ -277,6 +293,36 @@ fn rows_over_real_files(rt: HostRuntime) -> Result<(), Fail> {
         }
         assert_eq!(rt; status, row.status, "of {}", row.name);
         assert_eq!(rt; sink.bytes(), row.text.as_bytes(), "of {}", row.name);
+    }
+    Ok(())
+}
+
+/// The class with one byte changed or its method twice, and the line that refuses it.
+const REFUSED: [(Held, &str); 9] = [
+    (Held::Changed(0, 0x00), "refused class 1 magic 0\n"),
+    (Held::Changed(10, 0x02), "refused class 1 bad-tag 10\n"),
+    (Held::Changed(13, 0x00), "refused class 1 bad-text 13\n"),
+    (Held::Changed(18, 0x02), "refused class 1 bad-index 17\n"),
+    (
+        Held::Changed(206, 0x01),
+        "refused class 1 unsupported 206\n",
+    ),
+    (Held::Changed(206, 0x04), "refused class 1 bad-member 206\n"),
+    (Held::Changed(219, 0x17), "refused class 1 bad-length 216\n"),
+    (Held::Changed(227, 0x00), "refused class 1 bad-length 224\n"),
+    (Held::MethodTwice, "refused class 1 duplicate 242\n"),
+];
+
+#[test]
+fn each_fault_has_its_line(rt: HostRuntime) -> Result<(), Fail> {
+    let alloc = rt.alloc();
+    for (held, text) in &REFUSED {
+        let files = files_of(alloc, "Add.class", *held)?;
+        let mut store = MemStore::steady(alloc, files);
+        let mut sink = MemSink::steady(alloc, 1000)?;
+        let status = call(alloc, ADD_WORDS, &mut store, &mut sink)?;
+        assert_eq!(rt; status, Status::BadClass, "of {text}");
+        assert_eq!(rt; sink.bytes(), text.as_bytes(), "of {text}");
     }
     Ok(())
 }
