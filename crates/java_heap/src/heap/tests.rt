@@ -1,5 +1,5 @@
 use super::Heap;
-use crate::{CLASS, HeapFault, STRING, STRING_BUILDER};
+use crate::{HeapFault, STRING_BUILDER};
 use jv_names::Units;
 use std::alloc::{AllocError, Global};
 use std::test::Fail;
@@ -130,37 +130,43 @@ fn grows_a_builder(rt: HostRuntime) -> Result<(), Fail> {
     let builder = heap.alloc_text(STRING_BUILDER, &Units::from_ascii(alloc, b"ab")?)?;
     heap.append(builder, &Units::from_ascii(alloc, b"cd")?)?;
     assert_eq!(rt; heap.text(builder), Some([97, 98, 99, 100].as_slice()));
+    let more = Units::from_ascii(alloc, b"ef")?;
+    assert_eq!(rt; heap.append(builder, &more), Err(HeapFault::Full));
+    assert_eq!(rt; heap.text(builder), Some([97, 98, 99, 100].as_slice()));
     assert_eq!(rt; heap.words(), 6);
     Ok(())
 }
 
+/// A heap of one String and nothing more: the constant is found again, and other constants find no room.
 #[test]
-fn makes_one_of_each(rt: HostRuntime) -> Result<(), Fail> {
+fn makes_one_string_of_a_constant(rt: HostRuntime) -> Result<(), Fail> {
     let alloc = rt.alloc();
-    let mut heap = Heap::new(alloc, 13);
+    let mut heap = Heap::new(alloc, 7);
     let hello = Units::from_ascii(alloc, b"Hello")?;
-    assert!(rt; heap.class_object_made(POINT).is_none());
     let constant = heap.literal(&hello)?;
-    let class = heap.class_object(POINT)?;
-    let other = heap.class_object(ARRAY)?;
-    let empty = heap.literal(&Units::from_ascii(alloc, b"")?)?;
-    assert_eq!(rt;
-        [constant, class, other, empty],
-        [ObjNo(1), ObjNo(2), ObjNo(3), ObjNo(4)]
-    );
-    // The heap is full, and each is found again.
     assert_eq!(rt; heap.literal(&hello), Ok(constant));
-    assert_eq!(rt; heap.class_object(POINT), Ok(class));
-    assert_eq!(rt; heap.class_object_made(ARRAY), Some(other));
-    assert_eq!(rt;
-        heap.text(constant),
-        Some([72, 101, 108, 108, 111].as_slice())
-    );
-    assert_eq!(rt; heap.class_named(other).map(|class| class.0), Some(8));
-    assert!(rt; heap.text(class).is_none() && heap.class_named(constant).is_none());
     assert_eq!(rt;
         heap.literal(&Units::from_ascii(alloc, b"hello")?),
         Err(HeapFault::Full)
     );
+    assert_eq!(rt;
+        heap.text(constant),
+        Some([72, 101, 108, 108, 111].as_slice())
+    );
+    assert!(rt; heap.class_named(constant).is_none());
+    Ok(())
+}
+
+#[test]
+fn makes_one_class_object_of_a_class(rt: HostRuntime) -> Result<(), Fail> {
+    let mut heap = Heap::new(rt.alloc(), 4);
+    assert!(rt; heap.class_object_made(POINT).is_none());
+    let points = heap.class_object(POINT)?;
+    let arrays = heap.class_object(ARRAY)?;
+    assert_eq!(rt; [points, arrays], [ObjNo(1), ObjNo(2)]);
+    assert_eq!(rt; heap.class_object(POINT), Ok(points));
+    assert_eq!(rt; heap.class_object_made(ARRAY), Some(arrays));
+    assert_eq!(rt; heap.class_named(arrays).map(|class| class.0), Some(8));
+    assert!(rt; heap.text(arrays).is_none());
     Ok(())
 }
