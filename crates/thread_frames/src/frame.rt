@@ -16,8 +16,8 @@ pub struct Frame<P> {
     pub pin: P,
     /// The offset in bytes of the next instruction (2.5.1).
     pub pc: u16,
-    /// The local variables (2.6.1), as many as the `max_locals` of the method's code. A long has the first of its two, and
-    /// whoever writes it says what the second one holds.
+    /// The local variables (2.6.1), as many as the `max_locals` of the method's code. A long takes two of them: it stands in
+    /// the first, and what the second one holds is left to whoever writes it.
     pub locals: Items<Value>,
     /// The operand stack (2.6.2), with room for the `max_stack` words of the method's code.
     pub stack: Operands,

@@ -5,8 +5,10 @@ use std::alloc::{AllocError, Global};
 use std::marker::Model;
 use ti_ids::Value;
 
-/// An operand stack, which contracts see as its entries, the top first, and its room in words. The memory for its room is
-/// taken when it is made, so that a push takes none.
+/// An operand stack (JVM specification 2.6.2), which contracts see as its entries, the top first, and its room in words. The
+/// memory for its room is taken when it is made, so that a push takes none.
+///
+/// A long takes two words and is one entry; every other value takes one word.
 #[derive(Drop)]
 pub struct Operands {
     values: Vec<Value>,
@@ -54,7 +56,7 @@ impl Operands {
         words_of_value(value) <= self.room - self.words
     }
 
-    /// Puts a value on top.
+    /// Puts a value on top. No memory is taken.
     pub fn push(&mut self, value: Value)
         requires { Fits self.old value }
         ensures { self.new ≡ with_pushed self.old value }
@@ -80,7 +82,7 @@ impl Operands {
         self.values.last().copied()
     }
 
-    /// The entry so many below the top, which is that below none.
+    /// The entry that lies so many below the top, which itself is at 0.
     pub fn get(&self, depth: usize) -> Option<Value>
         ensures { result ≡ slice_get self.now.entries depth }
     {

@@ -15,8 +15,8 @@ use ti_ids::{ClassNo, ThreadNo};
 /// The stacks of all threads (JVM specification 2.5.2), which contracts see as a map from each thread that has entries to its
 /// stack, the list of its entries with the top first. Of a thread without entries nothing is kept.
 ///
-/// A stack has at most 1,024 entries, initializations counted, and its frames take at most 262,144 words. Each call takes
-/// time that is logarithmic in the number of threads, and does not depend on how deep their stacks are.
+/// A stack has at most 1,024 entries, initializations counted, and its frames take at most 262,144 words. A call takes time
+/// that is logarithmic in the number of threads, and looks at no entry but the one that it is about.
 #[derive(Drop)]
 pub struct Stacks<P> {
     alloc: Global,

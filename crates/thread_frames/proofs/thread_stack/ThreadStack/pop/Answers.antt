@@ -1,4 +1,4 @@
-use Rattle.std.proofs.Common.{arith, sym, ap, ◌∙◌, drop, List}
+use Rattle.std.proofs.Common.{arith, sym, ap, ◌∙◌, List}
 use Rattle.std.specs.Prelude.{slice_get}
 use Rattle.thread_frames.proofs.StackWords.{reverse-last, stack_words-last, length-last}
 use Rattle.thread_frames.specs.ThreadStack.{popped}
