@@ -12,4 +12,5 @@ pub mod LenLaws
 pub mod InstrCases
 pub mod ListCases
 pub mod PoolLaws
+pub mod Rising
 pub mod Examples

@@ -1,6 +1,7 @@
 -- The instructions of a method's code, each with its offset in bytes (JVM specification 4.7.3 and 4.9.1).
 use Rattle.std.specs.Prelude.{◌≡◌, ℕ, ◌+◌, ℤ, pos, ◌+ℤ◌, Bool, List, [], ◌∷◌, ◌++◌, length, map, Option, None, find, not}
 use Rattle.std.specs.List.{flat_map, list_any, list_all}
+use Rattle.std.specs.List.Sorted.{IsStrictlyIncreasing}
 use Rattle.std.specs.Ordering.{int_eq}
 use Rattle.class_code.specs.declared.instr.Instr.{Instr}
 use Rattle.class_code.specs.declared.instr.Instr.TheVariants as instr
@@ -20,6 +21,10 @@ InPlace at (p ∷ ps) = (p.0 ≡ at) × Fits p.1 × Stands at p.1 × InPlace (at
 pub record IsSpelled (code : List ℕ) (ps : List (ℕ × Instr)) : Type 0 where
   pub whole : code ≡ spelled ps
   pub in_place : InPlace 0 ps
+
+-- their offsets rise
+abbrev pub IsRising : List (ℕ × Instr) → Type 0
+IsRising ps = IsStrictlyIncreasing (map (λ p. p.0) ps)
 
 -- ---- targets
 

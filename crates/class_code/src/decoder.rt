@@ -1,7 +1,7 @@
 ghost use Rattle.std.specs.Prelude.{◌≡◌, ◌<◌, ◌^◌, ℕ, List, length, Some, None, IfOk, IfErr};
 ghost use Rattle.class_code.specs.declared.instr.Instr.{Instr};
 ghost use Rattle.class_code.specs.declared.fault.CodeFault.{CodeFault};
-ghost use Rattle.class_code.specs.Listing.{IsSpelled, IsListing};
+ghost use Rattle.class_code.specs.Listing.{IsSpelled, IsListing, IsRising};
 ghost use Rattle.class_code.specs.FirstFaults.{FirstFault, IfFault, Gives, Refuses, placed};
 ghost use Rattle.class_code.specs.CodeReading.{list_of};
 
@@ -77,6 +77,9 @@ pub fn decode(alloc: Global, code: &[u8]) -> Result<Vec<(u16, Instr)>, CodeFault
 
     // A code that has a first fault is refused for it, unless memory runs out.
     ensures exact { (f : CodeFault) → FirstFault code.now f → Refuses result f }
+
+    // The offsets of what is decoded rise.
+    ensures rising { IfOk result (λ v. IsRising v.items) }
 
     // What is decoded is what the code reads as, and a code that is refused reads as no list, unless memory ran out.
     ensures listed { IfOk result (λ v. list_of code.now ≡ Some v.items) }
