@@ -1,0 +1,17 @@
+pub mod Numbered
+pub mod Named
+pub mod Keyed
+pub mod Alike
+pub mod Changed
+pub mod Counting
+pub mod Held
+pub mod ReadyVersions
+pub mod Few
+pub mod Choosing
+pub mod Collect
+pub mod Depths
+pub mod Coded
+pub mod Tables
+pub mod Newest
+pub mod Installing
+pub mod ArrayEntries

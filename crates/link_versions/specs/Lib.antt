@@ -1,0 +1,12 @@
+pub mod Classes
+pub mod Orders
+pub mod Members
+pub mod Subtypes
+pub mod Resolution
+pub mod ReadyCode
+pub mod Changes
+pub mod Laws
+pub mod Entries
+pub mod Concrete
+pub mod Collecting
+pub mod TestTrees

@@ -1,0 +1,19 @@
+ghost use Rattle.link_versions.specs.Laws.{IsInstalled, IsNewest, KeepsVersions, KeepsNumbers, KeepsOrders, KeepsSuperclasses, KeepsStates, KeepsClasses, IsDefined};
+
+/// Does nothing, and is there for its contract: the laws of the lists of classes, of which the contracts of `Classes` speak.
+pub fn class_laws()
+    // An installed version is there, and it is the newest of its class.
+    ensures installed { IsInstalled }
+    ensures newest { IsNewest }
+
+    // All that an install leaves as it was.
+    ensures versions { KeepsVersions }
+    ensures numbers { KeepsNumbers }
+    ensures orders { KeepsOrders }
+    ensures superclasses { KeepsSuperclasses }
+    ensures states { KeepsStates }
+
+    // A defined class comes after those that are there, with its tree as its first version.
+    ensures classes { KeepsClasses }
+    ensures defined { IsDefined }
+{}
