@@ -1,5 +1,5 @@
 -- Branches (JVM specification 6.5: ifeq to goto, ifnull, ifnonnull, goto_w). `value2` is the top.
-use Rattle.std.specs.Prelude.{ℕ, Bool, true, false, not, ℤ, pos, Option, Some, None, is_some, is_none, ◌==◌}
+use Rattle.std.specs.Prelude.{Bool, true, false, not, ℤ, pos, Option, Some, None, is_some, is_none, ◌==◌}
 use Rattle.ti_ids.specs.Maybe.{◌>>=◌}
 use Rattle.ti_ids.specs.declared.number.ObjNo.{ObjNo}
 use Rattle.class_code.specs.declared.instr.Branch.{Branch}

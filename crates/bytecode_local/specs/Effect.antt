@@ -1,6 +1,6 @@
 -- The instructions that change their own frame alone and throw nothing, and what each does to the frame (JVM specification
 -- 6.5).
-use Rattle.std.specs.Prelude.{ℕ, Bool, true, false, not, ℤ, pos, negsuc, ◌+ℤ◌, ◌^◌, ◌≡◌, List, [], map, Option, Some, None, find, nat_lt, ◌==◌, unwrap_or, IsSome, if◌then◌else◌}
+use Rattle.std.specs.Prelude.{ℕ, Bool, true, false, not, ℤ, pos, negsuc, ◌+ℤ◌, ◌^◌, List, [], Option, Some, None, find, nat_lt, ◌==◌, unwrap_or, IsSome, if◌then◌else◌}
 use Rattle.std.specs.Option.{option_map}
 use Rattle.ti_ids.specs.Maybe.{◌>>=◌}
 use Rattle.ti_ids.specs.declared.value.Value.{Value}

@@ -1,6 +1,6 @@
 -- Instructions that move or copy operands whatever they hold (JVM specification 6.5: pop to swap). `value1` is the top. Where
 -- 6.5 has several forms, the categories of the operands say which one it is.
-use Rattle.std.specs.Prelude.{[], ◌∷◌, Option, Some, None, if◌then◌else◌}
+use Rattle.std.specs.Prelude.{[], ◌∷◌, Option, Some, if◌then◌else◌}
 use Rattle.ti_ids.specs.Maybe.{◌>>=◌}
 use Rattle.class_code.specs.declared.instr.StackOp.{StackOp}
 use Rattle.class_code.specs.declared.instr.StackOp.TheVariants as stack_op

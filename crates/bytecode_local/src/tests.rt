@@ -1,13 +1,14 @@
 mod java;
 
 ghost use Rattle.std.specs.Prelude.{◌<◌, ◌^◌, length};
+ghost use Rattle.class_code.specs.Listing.{IsRising};
 
 use crate::{fits, is_local, local_step};
 use class_code::{
     Arithmetic, Branch, Condition, Conversion, Instr, Kind, LookupSwitch, Padding, PoolOp, Simple,
     StackOp, TableSwitch, Width, decode,
 };
-use java::{CHOSEN, MIXED, STEPS};
+use java::{ADD, ADD_ISUB, CHOSEN, COUNT_ADD, COUNT_RUN, FIVE, MIXED, STEPS};
 use sqlite_items::Items;
 use std::alloc::{AllocError, Global};
 use std::test::Fail;
@@ -490,20 +491,27 @@ fn switches_by_an_int(rt: HostRuntime) -> Result<(), Fail> {
     Ok(())
 }
 
+/// The frame before the first instruction that isn't local, or that doesn't fit.
+fn run_local(code: &[(u16, Instr)], mut frame: Frame<u32>) -> Frame<u32>
+    requires { IsRising code.now }
+{
+    for _ in 0..10_000 {
+        if !fits(code, &frame) {
+            break;
+        }
+        frame = local_step(code, frame);
+    }
+    frame
+}
+
 /// What is on top before the first instruction that isn't local, in a frame of a method that was invoked with these local
 /// variables.
 fn left_by(alloc: Global, code: &[u8], locals: &[Value], room: u32) -> Result<Option<Value>, Fail>
     requires { length code.now < 2 ^ 16 }
 {
     let code = decode(alloc, code)?;
-    let mut frame = frame(alloc, locals, room, &[])?.ok_or("no room")?;
-    for _ in 0..10_000 {
-        if !fits(&code, &frame) {
-            break;
-        }
-        frame = local_step(&code, frame);
-    }
-    Ok(frame.stack.top())
+    let frame = frame(alloc, locals, room, &[])?.ok_or("no room")?;
+    Ok(run_local(&code, frame).stack.top())
 }
 
 /// `java` prints 111 of `steps(27)`, 430 of `chosen(9)` and -3862082854599350386 of `mixed(123456789, 10)`.
@@ -519,5 +527,54 @@ fn leaves_what_java_prints(rt: HostRuntime) -> Result<(), Fail> {
     locals[2] = Value::Int(10);
     let mixed = left_by(alloc, &MIXED, &locals, 6)?;
     assert_eq!(rt; mixed, Some(Value::Long(-3_862_082_854_599_350_386)));
+    Ok(())
+}
+
+/// What is on top before the first instruction from `pc` on that isn't local, where this value is the only operand at `pc`.
+fn left_from(alloc: Global, code: &[u8], pc: u16, operand: Value) -> Result<Option<Value>, Fail>
+    requires { length code.now < 2 ^ 16 }
+{
+    let code = decode(alloc, code)?;
+    let mut frame = frame(alloc, &[], 3, &[operand])?.ok_or("no room")?;
+    frame.pc = pc;
+    Ok(run_local(&code, frame).stack.top())
+}
+
+/// `Add` prints 5, `Add_isub` -1, and `Five` as its third line 2.
+#[test]
+fn leaves_what_the_class_files_print(rt: HostRuntime) -> Result<(), Fail> {
+    let (alloc, out) = (rt.alloc(), Value::Ref(Some(ObjNo(1))));
+    assert_eq!(rt; left_from(alloc, &ADD, 3, out)?, Some(Value::Int(5)));
+    assert_eq!(rt; left_from(alloc, &ADD_ISUB, 3, out)?, Some(Value::Int(-1)));
+    assert_eq!(rt; left_from(alloc, &FIVE, 23, out)?, Some(Value::Int(2)));
+    Ok(())
+}
+
+/// `Count.n` after a thread's `run`, from this on. Each call of `add` is stepped between the read and the write of `n`.
+fn counted(alloc: Global, mut n: Value) -> Result<Value, Fail> {
+    let code = decode(alloc, &COUNT_RUN)?;
+    let this = Value::Ref(Some(ObjNo(1)));
+    let mut run = frame(alloc, &[this, Value::Int(0)], 2, &[])?.ok_or("no room")?;
+    for _ in 0..5_000 {
+        run = run_local(&code, run);
+        if run.pc != 9 {
+            break;
+        }
+        n = left_from(alloc, &COUNT_ADD, 3, n)?.ok_or("no sum")?;
+        run.pc = 12;
+    }
+    if run.pc == 18 {
+        Ok(n)
+    } else {
+        Err(Fail::from("run did not return"))
+    }
+}
+
+/// `Count` prints `count=2000` after its two threads.
+#[test]
+fn counts_what_the_class_file_prints(rt: HostRuntime) -> Result<(), Fail> {
+    let first = counted(rt.alloc(), Value::Int(0))?;
+    let second = counted(rt.alloc(), first)?;
+    assert_eq!(rt; second, Value::Int(2000));
     Ok(())
 }
