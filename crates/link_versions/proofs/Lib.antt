@@ -11,6 +11,7 @@ pub mod Choosing
 pub mod Collect
 pub mod Depths
 pub mod Coded
+pub mod RisingCode
 pub mod Tables
 pub mod Newest
 pub mod Installing

@@ -1,8 +1,10 @@
 -- What the entries of the table say, the first class first, and what they keep.
-use Rattle.std.specs.Prelude.{◌≡◌, ℕ, zero, suc, Bool, List, [], ◌∷◌, ◌++◌, map, reverse, length, bytes_eq}
+use Rattle.std.specs.Prelude.{◌≡◌, ℕ, zero, suc, Bool, List, [], ◌∷◌, ◌++◌, map, reverse, length, bytes_eq, Option, IfSome, All}
 use Rattle.std.specs.List.{AllByRecursion}
 use Rattle.std.specs.Global.{Vec}
 use Rattle.jv_names.specs.Names.{Name}
+use Rattle.class_code.specs.declared.instr.Instr.{Instr}
+use Rattle.class_code.specs.Listing.{IsRising}
 use Rattle.link_versions.specs.declared.class.Entry.{Entry}
 use Rattle.link_versions.specs.declared.class.EntryKind.{EntryKind}
 use Rattle.link_versions.specs.declared.class.EntryKind.TheVariants as entry_kinds
@@ -27,9 +29,14 @@ classes_of entries = map class_of (reverse entries)
 
 -- ---- what an entry keeps
 
+-- a method's code, where it has one, is a list of which the offsets rise
+abbrev pub RisesIfThere : Option (List (ℕ × Instr)) → Type 0
+RisesIfThere code = IfSome code IsRising
+
 -- the codes of a version are those of its methods
-abbrev pub IsReady : Version → Type 0
-IsReady v = v.codes ≡ map (ready_code v.tree.pool) v.tree.methods
+pub record IsReady (v : Version) : Type 0 where
+  pub codes : v.codes ≡ map (ready_code v.tree.pool) v.tree.methods
+  pub rising : All RisesIfThere v.codes
 
 abbrev pub AreReady : EntryKind → Type 0
 AreReady (entry_kinds.File versions) = AllByRecursion IsReady versions

@@ -1,5 +1,6 @@
 //! A class by its number, and what it declares.
 ghost use Rattle.std.specs.Prelude.{◌≡◌, reverse, option_copied, option_map, position, IfSome};
+ghost use Rattle.class_code.specs.Listing.{IsRising};
 ghost use Rattle.class_tree.specs.Tree.{is_named as has_names};
 ghost use Rattle.link_versions.specs.Classes.{numbered, version_at, version_count as count_of_versions, first_version as first_of_class, class_has as class_flag};
 ghost use Rattle.link_versions.specs.Orders.{lookup_order, superclasses};
@@ -74,7 +75,8 @@ pub(crate) fn version_tree(entries: &Table, version: VersionNo) -> Option<&Class
 #[tactic(auto, unfolding(crate::specs::ReadyCode::code_in))]
 pub(crate) fn code(entries: &Table, version: VersionNo, method: MethodNo) -> Option<&[(u16, Instr)]>
     requires { IsTable entries.now }
-    ensures { option_copied result ≡ code_in (classes_of entries.now) version method }
+    ensures code { option_copied result ≡ code_in (classes_of entries.now) version method }
+    ensures rising { IfSome result (λ list. IsRising list.now) }
 {
     if version.class.0 != method.class.0 {
         return None;

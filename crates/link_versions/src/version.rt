@@ -1,9 +1,10 @@
 //! Versions of classes: the code of each method, decoded once and made ready for running.
-ghost use Rattle.std.specs.Prelude.{◌≡◌, ◌<◌, ◌^◌, ℤ, length, map, Option, Some, IsSome, IfOk, option_copied};
+ghost use Rattle.std.specs.Prelude.{◌≡◌, ◌<◌, ◌^◌, ℤ, length, map, Option, Some, IsSome, IfOk, option_copied, All, IfSome};
 ghost use Rattle.class_code.specs.CodeReading.{list_of};
+ghost use Rattle.class_code.specs.Listing.{IsRising};
 ghost use Rattle.class_tree.specs.Tree.{entry_at};
 ghost use Rattle.link_versions.specs.ReadyCode.{int_of, long_of, ready, ready_list as made_ready, ready_code as code_ready, code_named, IsCoded};
-ghost use Rattle.link_versions.specs.Entries.{IsReady};
+ghost use Rattle.link_versions.specs.Entries.{IsReady, RisesIfThere};
 
 use crate::class::{Instrs, Version};
 use class_code::{CodeFault, Instr, PoolOp, decode};
@@ -58,7 +59,8 @@ fn ready_instr(tree: &ClassFile, instr: Instr) -> Instr
 fn decoded(alloc: Global, bytes: &[u8]) -> Result<Vec<(u16, Instr)>, AllocError>
     requires short { length bytes.now < 2 ^ 16 }
     requires listed { IsSome (list_of bytes.now) }
-    ensures { IfOk result (λ list. list_of bytes.now ≡ Some list.items) }
+    ensures list { IfOk result (λ list. list_of bytes.now ≡ Some list.items) }
+    ensures rising { IfOk result (λ list. IsRising list.items) }
 {
     match decode(alloc, bytes) {
         Ok(list) => Ok(list),
@@ -68,12 +70,15 @@ fn decoded(alloc: Global, bytes: &[u8]) -> Result<Vec<(u16, Instr)>, AllocError>
 }
 
 /// A list made ready for running.
+#[tactic(auto, using(crate::proofs::RisingCode::made_rising))]
 fn ready_list(
     alloc: Global,
     tree: &ClassFile,
     list: Vec<(u16, Instr)>,
 ) -> Result<Instrs, AllocError>
-    ensures { IfOk result (λ instrs. instrs ≡ made_ready tree.now.pool list.items) }
+    requires { IsRising list.items }
+    ensures made { IfOk result (λ instrs. instrs ≡ made_ready tree.now.pool list.items) }
+    ensures rising { IfOk result IsRising }
 {
     let mut instrs = Items::new(alloc);
     for (at, instr) in list {
@@ -90,7 +95,8 @@ fn ready_code(
     method: &Member,
 ) -> Result<Option<Instrs>, AllocError>
     requires { IsCoded method.now }
-    ensures { IfOk result (λ code. code ≡ code_ready tree.now.pool method.now) }
+    ensures made { IfOk result (λ code. code ≡ code_ready tree.now.pool method.now) }
+    ensures rising { IfOk result RisesIfThere }
 {
     match method.code() {
         Some(code) => {
@@ -103,7 +109,8 @@ fn ready_code(
 
 /// The codes of the methods, in their order.
 fn ready_codes(alloc: Global, tree: &ClassFile) -> Result<Items<Option<Instrs>>, AllocError>
-    ensures { IfOk result (λ codes. codes ≡ map (code_ready tree.now.pool) tree.now.methods) }
+    ensures made { IfOk result (λ codes. codes ≡ map (code_ready tree.now.pool) tree.now.methods) }
+    ensures rising { IfOk result (All RisesIfThere) }
 {
     let mut codes = Items::new(alloc);
     for method in tree.methods.as_slice() {
@@ -123,9 +130,11 @@ impl Version {
     }
 
     /// The code of the method of this name and this descriptor.
+    #[tactic(auto, using(crate::proofs::RisingCode::rising_at))]
     pub(crate) fn code(&self, name: &Units, desc: &Units) -> Option<&[(u16, Instr)]>
         requires { IsReady self.now }
-        ensures { option_copied result ≡ code_named self.now.tree (Some name.now) (Some desc.now) }
+        ensures code { option_copied result ≡ code_named self.now.tree (Some name.now) (Some desc.now) }
+        ensures rising { IfSome result (λ list. IsRising list.now) }
     {
         let place = self.tree.method_at(name, desc)?;
         match self.codes.get(place)? {

@@ -1,5 +1,6 @@
 //! The versions of classes, and how far classes are.
-ghost use Rattle.std.specs.Prelude.{◌≡◌, ◌+◌, ◌<◌, ◌^◌, OnOk, OnErr, IfOk, option_copied};
+ghost use Rattle.std.specs.Prelude.{◌≡◌, ◌+◌, ◌<◌, ◌^◌, OnOk, OnErr, IfOk, IfSome, option_copied};
+ghost use Rattle.class_code.specs.Listing.{IsRising};
 ghost use Rattle.link_versions.specs.Classes.{version_count, newest_version, next_version};
 ghost use Rattle.link_versions.specs.Changes.{IsThere, IsOfFile, CanInstall, with_class, with_version, with_state};
 ghost use Rattle.link_versions.specs.ReadyCode.{code_in};
@@ -49,7 +50,10 @@ impl Classes {
     /// There are none where the method is abstract, where it is not of the version's class, and where the version or the method is
     /// not there. The time is linear in the number of the class's methods.
     pub fn code(&self, version: VersionNo, method: MethodNo) -> Option<&[(u16, Instr)]>
-        ensures { option_copied result ≡ code_in self.now version method }
+        ensures code { option_copied result ≡ code_in self.now version method }
+
+        // Its offsets rise, as `bytecode_local` asks.
+        ensures rising { IfSome result (λ list. IsRising list.now) }
     {
         entries::code(&self.table, version, method)
     }
