@@ -1,16 +1,19 @@
 -- Lists of classes with the same names, superclasses and superinterfaces give the same numbers and orders, and the same is lawful
 -- over them.
 use Rattle.std.proofs.Common.{◌≡◌, ℕ, suc, ◌≤◌, ◌==◌, true, false, List, [], ◌∷◌, length, refl, sym, ap, subst, ◌∙◌, Option, Some, None}
-use Rattle.std.specs.Prelude.{IfSome, bytes_eq, if◌then◌else◌}
-use Rattle.std.specs.List.{AllByRecursion}
+use Rattle.std.specs.Prelude.{IsSome, IfSome, All, bytes_eq, if◌then◌else◌}
+use Rattle.std.specs.List.{AllByRecursion, filter_map}
 use Rattle.ti_ids.specs.declared.number.ClassNo.{ClassNo}
 use Rattle.jv_names.specs.Names.{Name}
-use Rattle.link_versions.specs.declared.class.Element.{Element}
-use Rattle.link_versions.specs.declared.class.Element.TheVariants as element
+use Rattle.jv_names.specs.declared.descriptor.ElementType.{ElementType}
+use Rattle.jv_names.specs.declared.descriptor.ElementType.TheVariants as element_type
+use Rattle.class_tree.specs.Trees.{Tree}
+use Rattle.class_tree.specs.Tree.{class_at as name_at}
 use Rattle.link_versions.specs.declared.class.Entry.{Entry}
 use Rattle.link_versions.specs.Classes.{Class, Kind, OfFile, OfArray, with_numbered, number_of}
 use Rattle.link_versions.specs.Orders.{ordered, from_parent, lookup_order, superclasses}
-use Rattle.link_versions.specs.Changes.{IsThere, parent_by, interfaces_by, IsElement, IsOfKind, IsLawful}
+use Rattle.link_versions.specs.Subtypes.{object_name, array_interface_names}
+use Rattle.link_versions.specs.Changes.{IsThere, CanDefine, parent_by, interfaces_by, element_by, IsElementThere, IsArrayName, IsOfKind, IsLawful}
 use Rattle.link_versions.specs.Entries.{class_of, IsSound}
 
 pub record IsAlike (c d : Class) : Type 0 where
@@ -73,21 +76,46 @@ superclasses-alike (c ∷ cs) (d ∷ ds) n a =
 there_alike : (cs ds : List Class) → AreAlike cs ds → (n : ClassNo) → IsThere cs n → IsThere ds n
 there_alike cs ds a n there = (there.0, subst (λ k. n.0 ≤ k) (length-alike cs ds a) there.1)
 
-element_alike : (cs ds : List Class) → AreAlike cs ds → (e : Element) → IsElement cs e → IsElement ds e
-element_alike cs ds a (element.Class n) there = there_alike cs ds a n there
-element_alike cs ds a element.Boolean there = there
-element_alike cs ds a element.Byte there = there
-element_alike cs ds a element.Char there = there
-element_alike cs ds a element.Short there = there
-element_alike cs ds a element.Int there = there
-element_alike cs ds a element.Long there = there
+element_alike : (cs ds : List Class) → number_of cs ≡ number_of ds → (e : ElementType) → IsElementThere cs e → IsElementThere ds e
+element_alike cs ds numbers (element_type.Class name) there = subst (λ find. IsSome (find name)) numbers there
+element_alike cs ds numbers element_type.Boolean there = there
+element_alike cs ds numbers element_type.Byte there = there
+element_alike cs ds numbers element_type.Char there = there
+element_alike cs ds numbers element_type.Short there = there
+element_alike cs ds numbers element_type.Int there = there
+element_alike cs ds numbers element_type.Long there = there
+
+define_alike : (cs ds : List Class) (t : Tree) → number_of cs ≡ number_of ds → CanDefine cs t → CanDefine ds t
+define_alike cs ds t numbers can = record {
+  fresh = subst (λ (find : Name → Option ClassNo). IfSome (name_at t.pool t.this_class) (λ name. find name ≡ None)) numbers can.fresh;
+  parent = subst (λ (find : Name → Option ClassNo). IfSome (name_at t.pool t.super_class) (λ name. IsSome (find name))) numbers can.parent;
+  interfaces = subst (λ (find : Name → Option ClassNo). All (λ index. IfSome (name_at t.pool index) (λ name. IsSome (find name))) t.interfaces) numbers can.interfaces;
+}
 
 pub kind_alike : (cs ds : List Class) (c d : Class) (kind : Kind) → AreAlike cs ds → IsAlike c d → IsOfKind cs c kind → IsOfKind ds d kind
 kind_alike cs ds c d (OfFile []) a same k = k
 kind_alike cs ds c d (OfFile (first ∷ later)) a same k =
     let numbers : number_of cs ≡ number_of ds = λ i name. number_of-alike cs ds name a i in
-    (k.0 ∙ ap (λ name. Some name) same.name, sym same.parent ∙ k.1 ∙ ap (λ find. parent_by find first) numbers, sym same.interfaces ∙ k.2 ∙ ap (λ find. interfaces_by find first) numbers, k.3, k.4)
-kind_alike cs ds c d (OfArray dimensions e) a same k = (k.0, element_alike cs ds a e k.1)
+    record {
+      name = k.name ∙ ap (λ name. Some name) same.name;
+      defined = define_alike cs ds first numbers k.defined;
+      parent = sym same.parent ∙ k.parent ∙ ap (λ find. parent_by find first) numbers;
+      interfaces = sym same.interfaces ∙ k.interfaces ∙ ap (λ find. interfaces_by find first) numbers;
+      keep = k.keep;
+      well_formed = k.well_formed;
+      few = k.few;
+    }
+kind_alike cs ds c d (OfArray dimensions e) a same k =
+    let numbers : number_of cs ≡ number_of ds = λ i name. number_of-alike cs ds name a i in
+    record {
+      type = k.type;
+      named = subst (λ name. IsArrayName name k.type) same.name k.named;
+      there = element_alike cs ds numbers k.type.element k.there;
+      deep = k.deep;
+      over = k.over ∙ ap (λ find. element_by find k.type.element) numbers;
+      parent = sym same.parent ∙ k.parent ∙ ap (λ find. find object_name) numbers;
+      interfaces = sym same.interfaces ∙ k.interfaces ∙ ap (λ find. filter_map find array_interface_names) numbers;
+    }
 
 if_there : (cs ds : List Class) → AreAlike cs ds → (found : Option ClassNo) → IfSome found (IsThere cs) → IfSome found (IsThere ds)
 if_there cs ds a None there = tt

@@ -1,10 +1,8 @@
 -- The entry of an array class.
-use Rattle.std.proofs.Common.{◌≡◌, ◌<◌, List, ◌∷◌, refl, ap, Option, Some, None}
-use Rattle.std.specs.Prelude.{IsSome, IfSome, unwrap_or, if◌then◌else◌, is_none}
+use Rattle.std.proofs.Common.{◌≡◌, List, ◌∷◌, refl, ap, Option, Some, None}
+use Rattle.std.specs.Prelude.{IfSome, if◌then◌else◌, is_none}
 use Rattle.std.specs.List.{filter_map}
 use Rattle.ti_ids.specs.declared.number.ClassNo.{ClassNo}
-use Rattle.jv_names.specs.declared.descriptor.ElementType.{ElementType}
-use Rattle.jv_names.specs.declared.descriptor.ElementType.TheVariants as element_type
 use Rattle.jv_names.specs.declared.descriptor.FieldType.{FieldType}
 use Rattle.jv_names.specs.Names.{Name}
 use Rattle.link_versions.specs.declared.class.Entry.{Entry}
@@ -12,7 +10,7 @@ use Rattle.link_versions.specs.declared.class.EntryKind.TheVariants as entry_kin
 use Rattle.link_versions.specs.declared.class.InitState.TheVariants as states
 use Rattle.link_versions.specs.Classes.{Class, number_of}
 use Rattle.link_versions.specs.Subtypes.{object_name, array_interface_names}
-use Rattle.link_versions.specs.Changes.{IsThere, IsElement, element_by, IsElementThere, array_class, with_array, IsLawful}
+use Rattle.link_versions.specs.Changes.{IsThere, element_by, IsElementThere, IsArrayName, array_class, with_array, IsLawful}
 use Rattle.link_versions.specs.Entries.{kind_of, class_of, IsSound}
 use Rattle.link_versions.proofs.Tables.{number_of-there, all_there, IsOrdered, in_order}
 
@@ -20,23 +18,10 @@ found_there : (classes : List Class) (name : Name) (found : Option ClassNo) → 
 found_there classes name None e = tt
 found_there classes name (Some n) e = number_of-there classes name n e
 
-named_element : (classes : List Class) (name : Name) (found : Option ClassNo) → number_of classes name ≡ found → IsSome found → IsThere classes (unwrap_or found (record { 0 = 0 }))
-named_element classes name None e some = absurd cc
-named_element classes name (Some n) e some = number_of-there classes name n e
-
-element_there : (classes : List Class) (e : ElementType) → IsElementThere classes e → IsElement classes (element_by (number_of classes) e)
-element_there classes element_type.Boolean there = tt
-element_there classes element_type.Byte there = tt
-element_there classes element_type.Char there = tt
-element_there classes element_type.Short there = tt
-element_there classes element_type.Int there = tt
-element_there classes element_type.Long there = tt
-element_there classes (element_type.Class name) there = named_element classes name (number_of classes name) refl there
-
 -- an entry of an array class
 pub record IsArrayEntry (classes : List Class) (e : Entry) (t : FieldType) : Type 0 where
   pub fresh : number_of classes e.name ≡ None
-  pub array : 0 < t.dimensions
+  pub named : IsArrayName e.name t
   pub there : IsElementThere classes t.element
   pub parent : e.parent ≡ number_of classes object_name
   pub interfaces : e.interfaces ≡ filter_map (number_of classes) array_interface_names
@@ -47,7 +32,15 @@ array_lawful classes e t f = record {
   fresh = f.fresh;
   parent = rw f.parent (found_there classes object_name (number_of classes object_name) refl);
   interfaces = rw f.interfaces (all_there classes (λ (name : Name). Some name) array_interface_names);
-  kind = rw f.kind (f.array, element_there classes t.element f.there);
+  kind = rw f.kind (record {
+    type = t;
+    named = f.named;
+    there = f.there;
+    deep = refl;
+    over = refl;
+    parent = f.parent;
+    interfaces = f.interfaces;
+  });
 }
 
 pub array_sound : (classes : List Class) (e : Entry) (t : FieldType) (n : ClassNo) → IsArrayEntry classes e t → IsOrdered classes e n → IsSound classes e

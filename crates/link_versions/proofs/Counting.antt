@@ -140,7 +140,7 @@ pub record IsCounted (classes : List Class) (n : ClassNo) : Type 0 where
 
 count_in : (older : List Class) (c : Class) (kind : Kind) → IsOfKind older c kind → IsSome (slice_get (versions_of kind) 0) → (0 < length (versions_of kind)) × (length (versions_of kind) < 2 ^ 32)
 count_in older c (OfFile []) k some = absurd k
-count_in older c (OfFile (first ∷ later)) k some = (omega arith, k.4)
+count_in older c (OfFile (first ∷ later)) k some = (omega arith, k.few)
 count_in older c (OfArray dimensions e) k some = absurd cc
 
 pub counted : (classes : List Class) (n : ClassNo) → AreLawful classes → IsOfFile classes n → IsCounted classes n

@@ -1,12 +1,13 @@
 -- The entry of a class, and the table after a version more or another state.
 use Rattle.std.proofs.Common.{◌≡◌, ℕ, zero, suc, ◌+◌, ◌-◌, ◌<◌, ◌^◌, List, [], ◌∷◌, ◌++◌, length, map, reverse, refl, sym, ap, subst, ◌∙◌, Option, Some, None, arith}
-use Rattle.std.specs.Prelude.{IfSome, slice_get}
+use Rattle.std.specs.Prelude.{IsTrue, IfSome, slice_get}
 use Rattle.std.specs.List.{AllByRecursion}
 use Rattle.std.specs.Option.{option_map_or}
 use Rattle.std.proofs.lemmas.List.{length-append, map-append}
 use Rattle.std.proofs.lemmas.Option.{slice_get_within, same_Some}
 use Rattle.ti_ids.specs.declared.number.ClassNo.{ClassNo}
 use Rattle.class_tree.specs.Trees.{Tree}
+use Rattle.class_tree.specs.WellFormed.{is_well_formed}
 use Rattle.link_versions.specs.declared.class.Entry.{Entry}
 use Rattle.link_versions.specs.declared.class.EntryKind.{EntryKind}
 use Rattle.link_versions.specs.declared.class.EntryKind.TheVariants as entry_kinds
@@ -99,15 +100,23 @@ ready_after (entry_kinds.File versions) v ready all = all_ready versions v all r
 ready_after (entry_kinds.Array dimensions element) v ready all = all
 
 kind_after : (older : List Class) (c : Class) (kind : EntryKind) (v : Version) (first : Tree) → slice_get (versions_of (kind_of kind)) 0 ≡ Some first → Keeps first v.tree
-    → length (versions_of (kind_of kind)) + 1 < 2 ^ 32 → IsOfKind older c (kind_of kind) → IsOfKind older c (kind_of (kind_with v kind))
-kind_after older c (entry_kinds.File []) v first e keeps few k = absurd k
-kind_after older c (entry_kinds.File (w ∷ ws)) v first e keeps few k =
+    → IsTrue (is_well_formed v.tree) → length (versions_of (kind_of kind)) + 1 < 2 ^ 32 → IsOfKind older c (kind_of kind) → IsOfKind older c (kind_of (kind_with v kind))
+kind_after older c (entry_kinds.File []) v first e keeps formed few k = absurd k
+kind_after older c (entry_kinds.File (w ∷ ws)) v first e keeps formed few k =
     let tree : Version → Tree = λ u. u.tree in
     let same : first ≡ w.tree = sym (same_Some _ _ e) in
     let P : Tree → Type 0 = λ t. Keeps t v.tree in
     let size : length (map tree (ws ++ v ∷ [])) ≡ length (map tree ws) + 1 = ap length (map-append tree ws (v ∷ [])) ∙ length-append (map tree ws) (v.tree ∷ []) in
-    (k.0, k.1, k.2, all_and (Keeps w.tree) tree ws v k.3 (subst P same keeps), omega (arith, size, few))
-kind_after older c (entry_kinds.Array dimensions element) v first e keeps few k = absurd cc
+    record {
+      name = k.name;
+      defined = k.defined;
+      parent = k.parent;
+      interfaces = k.interfaces;
+      keep = all_and (Keeps w.tree) tree ws v k.keep (subst P same keeps);
+      well_formed = all_and (λ t. IsTrue (is_well_formed t)) tree (w ∷ ws) v k.well_formed formed;
+      few = omega (arith, size, few);
+    }
+kind_after older c (entry_kinds.Array dimensions element) v first e keeps formed few k = absurd cc
 
 pub count_is : (es : List Entry) (n : ClassNo) (e : Entry) → numbered (reverse es) n.0 ≡ Some e → version_count (classes_of es) n ≡ length (versions_of (kind_of e.kind))
 unfolding version_count
@@ -130,7 +139,7 @@ IsTable-added es n v table can room ready =
     let alike : IsAlike (class_of e) (class_of (with_added v e)) = record { name = refl; parent = refl; interfaces = refl } in
     let before : IsOfKind older (class_of (with_added v e)) (kind_of e.kind) = kind_alike older older (class_of e) (class_of (with_added v e)) (kind_of e.kind) (all_themselves older) alike s.lawful.kind in
     sound_changed older e (with_added v e) (record { alike = alike; order = refl; supers = refl })
-    (kind_after older (class_of (with_added v e)) e.kind v can.first f.first_held can.keeps few before) (ready_after e.kind v ready s.codes) s)
+    (kind_after older (class_of (with_added v e)) e.kind v can.first f.first_held can.keeps ready.well_formed few before) (ready_after e.kind v ready s.codes) s)
     es (n.0 - 1) f.held.found table
 
 pub classes_of-added : (es : List Entry) (n : ClassNo) (v : Version) → 0 < n.0 → classes_of (changed_at (with_added v) es (n.0 - 1)) ≡ with_class (with_version v.tree) n (classes_of es)

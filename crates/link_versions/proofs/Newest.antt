@@ -42,7 +42,7 @@ record KeepsFirst (kind : Kind) (t : Tree) : Type 0 where
 
 of_kind : (older : List Class) (c : Class) (kind : Kind) (place : ℕ) (t : Tree) → IsOfKind older c kind → slice_get (versions_of kind) place ≡ Some t → KeepsFirst kind t
 of_kind older c (OfFile []) place t k at = absurd k
-of_kind older c (OfFile (first ∷ later)) place t k at = record { first = first; is_first = refl; keeps = kept_at first later place t k.3 at }
+of_kind older c (OfFile (first ∷ later)) place t k at = record { first = first; is_first = refl; keeps = kept_at first later place t k.keep at }
 of_kind older c (OfArray dimensions e) place t k at = absurd cc
 
 record HasKind (e : Entry) : Type 0 where

@@ -1,6 +1,6 @@
 -- The table with one class more, and what it says.
 use Rattle.std.proofs.Common.{◌≡◌, ℕ, ◌-◌, ◌<◌, Bool, true, false, List, [], ◌∷◌, ◌++◌, length, map, reverse, get_or, refl, sym, ap, subst, ◌∙◌, Option, Some, None, arith}
-use Rattle.std.specs.Prelude.{IfSome, bytes_eq, unwrap_or, ⊤}
+use Rattle.std.specs.Prelude.{IfSome, IsTrue, bytes_eq, unwrap_or, ⊤}
 use Rattle.std.specs.List.{filter_map, cons_option, AllByRecursion}
 use Rattle.std.specs.Option.{option_and_then}
 use Rattle.std.proofs.lemmas.Bool.{cond-true, cond-false, eq-eqb}
@@ -119,7 +119,15 @@ pub record IsFileEntry (classes : List Class) (e : Entry) (v : Version) (t : Tre
 
 of_kind : (classes : List Class) (e : Entry) (v : Version) (t : Tree) → IsFileEntry classes e v t → IsOfKind classes (class_of e) (kind_of e.kind)
 of_kind classes e v t f =
-    rw (f.kind, f.tree) (f.named, f.parent, f.interfaces, tt, omega arith)
+    rw (f.kind, f.tree) (record {
+      name = f.named;
+      defined = f.can;
+      parent = f.parent;
+      interfaces = f.interfaces;
+      keep = tt;
+      well_formed = (subst (λ u. IsTrue (is_well_formed u)) f.tree f.ready.well_formed, tt);
+      few = omega arith;
+    })
 
 file_lawful : (classes : List Class) (e : Entry) (v : Version) (t : Tree) → IsFileEntry classes e v t → IsLawful classes (class_of e)
 file_lawful classes e v t f = record {

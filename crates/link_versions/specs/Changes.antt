@@ -1,5 +1,5 @@
 -- What defining a class, installing a version and making an array class do, and what they ask.
-use Rattle.std.specs.Prelude.{◌≡◌, ◌<◌, ◌≤◌, ◌^◌, if◌then◌else◌, List, [], ◌∷◌, ◌++◌, length, map, All, Option, Some, None, IsSome, IfSome, is_none, unwrap_or, IsPermutation}
+use Rattle.std.specs.Prelude.{◌≡◌, ℕ, ◌<◌, ◌≤◌, ◌^◌, if◌then◌else◌, List, [], ◌∷◌, ◌++◌, length, map, All, Option, Some, None, IsSome, IfSome, is_none, IsTrue, unwrap_or, IsPermutation}
 use Rattle.std.specs.List.{filter_map, AllByRecursion}
 use Rattle.std.specs.Option.{option_and_then}
 use Rattle.ti_ids.specs.declared.number.ClassNo.{ClassNo}
@@ -13,6 +13,7 @@ use Rattle.class_tree.specs.declared.pool.Const.{Const}
 use Rattle.class_tree.specs.declared.members.Member.{Member}
 use Rattle.class_tree.specs.Trees.{Tree}
 use Rattle.class_tree.specs.Tree.{text_at, class_at as name_at}
+use Rattle.class_tree.specs.WellFormed.{is_well_formed}
 use Rattle.link_versions.specs.declared.class.Element.{Element}
 use Rattle.link_versions.specs.declared.class.Element.TheVariants as element
 use Rattle.link_versions.specs.declared.class.InitState.{InitState}
@@ -137,18 +138,31 @@ with_array classes name t = if is_none (number_of classes name) then array_class
 
 -- ---- what every list of classes keeps
 
--- An element of an array is there.
-abbrev pub IsElement : List Class → Element → Type 0
-IsElement classes (element.Class n) = IsThere classes n
-IsElement classes e = Unit {0}
+-- A class of a file is what its first version says, over classes that were defined before it. Each version is well-formed and
+-- keeps the first one; a version's place fits 32 bits.
+pub record IsOfVersions (older : List Class) (c : Class) (first : Tree) (later : List Tree) : Type 0 where
+  pub name : name_at first.pool first.this_class ≡ Some c.name
+  pub defined : CanDefine older first
+  pub parent : c.parent ≡ parent_by (number_of older) first
+  pub interfaces : c.interfaces ≡ interfaces_by (number_of older) first
+  pub keep : AllByRecursion (Keeps first) later
+  pub well_formed : AllByRecursion (λ t. IsTrue (is_well_formed t)) (first ∷ later)
+  pub few : length (first ∷ later) < 2 ^ 32
 
--- A class of a file is what its first version says, and each version keeps that; a version's place fits 32 bits.
+-- An array class is what its name says, over an element that was defined before it.
+pub record IsOfArray (older : List Class) (c : Class) (dimensions : ℕ) (e : Element) : Type 0 where
+  pub type : FieldType
+  pub named : IsArrayName c.name type
+  pub there : IsElementThere older type.element
+  pub deep : dimensions ≡ type.dimensions
+  pub over : e ≡ element_by (number_of older) type.element
+  pub parent : c.parent ≡ number_of older object_name
+  pub interfaces : c.interfaces ≡ filter_map (number_of older) array_interface_names
+
 abbrev pub IsOfKind : List Class → Class → Kind → Type 0
 IsOfKind older c (OfFile []) = ⊥
-IsOfKind older c (OfFile (first ∷ later)) =
-    (name_at first.pool first.this_class ≡ Some c.name) × (c.parent ≡ parent_by (number_of older) first) × (c.interfaces ≡ interfaces_by (number_of older) first)
-    × AllByRecursion (Keeps first) later × (length (first ∷ later) < 2 ^ 32)
-IsOfKind older c (OfArray dimensions e) = (0 < dimensions) × IsElement older e
+IsOfKind older c (OfFile (first ∷ later)) = IsOfVersions older c first later
+IsOfKind older c (OfArray dimensions e) = IsOfArray older c dimensions e
 
 -- A class has a name of its own, and what it refers to was defined before it.
 pub record IsLawful (older : List Class) (c : Class) : Type 0 where

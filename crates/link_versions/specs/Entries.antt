@@ -1,10 +1,11 @@
 -- What the entries of the table say, the first class first, and what they keep.
-use Rattle.std.specs.Prelude.{◌≡◌, ℕ, zero, suc, Bool, List, [], ◌∷◌, ◌++◌, map, reverse, length, bytes_eq, Option, IfSome, All}
+use Rattle.std.specs.Prelude.{◌≡◌, ℕ, zero, suc, Bool, List, [], ◌∷◌, ◌++◌, map, reverse, length, bytes_eq, Option, IfSome, IsTrue, All}
 use Rattle.std.specs.List.{AllByRecursion}
 use Rattle.std.specs.Global.{Vec}
 use Rattle.jv_names.specs.Names.{Name}
 use Rattle.class_code.specs.declared.instr.Instr.{Instr}
 use Rattle.class_code.specs.Listing.{IsRising}
+use Rattle.class_tree.specs.WellFormed.{is_well_formed}
 use Rattle.link_versions.specs.declared.class.Entry.{Entry}
 use Rattle.link_versions.specs.declared.class.EntryKind.{EntryKind}
 use Rattle.link_versions.specs.declared.class.EntryKind.TheVariants as entry_kinds
@@ -33,8 +34,9 @@ classes_of entries = map class_of (reverse entries)
 abbrev pub RisesIfThere : Option (List (ℕ × Instr)) → Type 0
 RisesIfThere code = IfSome code IsRising
 
--- the codes of a version are those of its methods
+-- A version is well-formed, and its codes are those of its methods.
 pub record IsReady (v : Version) : Type 0 where
+  pub well_formed : IsTrue (is_well_formed v.tree)
   pub codes : v.codes ≡ map (ready_code v.tree.pool) v.tree.methods
   pub rising : All RisesIfThere v.codes
 

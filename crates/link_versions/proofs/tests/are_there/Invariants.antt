@@ -1,4 +1,4 @@
-use Rattle.std.proofs.Common.{All, take, option_copied}
+use Rattle.std.proofs.Common.{All, take}
 use Rattle.std.specs.Prelude.{IsSome, IfSome}
 use Rattle.class_tree.specs.Tree.{class_at}
 use Rattle.link_versions.specs.Classes.{number_of}

@@ -35,7 +35,7 @@ returns-clause-class c = λ t is.
     class_of-array c.args.self.now entry c.args.name.now c.requires.can.type
     (record {
       fresh = rw c.in_ok-name.ensures c.requires.fresh;
-      array = c.requires.can.named.array;
+      named = rw c.in_ok-name.ensures c.requires.can.named;
       there = c.requires.can.there;
       parent = c.find-parent.ensures;
       interfaces = c.in_ok-interfaces.ensures;
@@ -58,7 +58,7 @@ returns-clause-sound c =
     array_sound classes _ c.requires.can.type (record { 0 = number })
     (record {
       fresh = rw c.in_ok-name.ensures c.requires.fresh;
-      array = c.requires.can.named.array;
+      named = rw c.in_ok-name.ensures c.requires.can.named;
       there = c.requires.can.there;
       parent = c.find-parent.ensures;
       interfaces = c.in_ok-interfaces.ensures;
