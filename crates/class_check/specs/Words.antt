@@ -25,3 +25,15 @@ Names words times files = ((words ≡ files) × (times ≡ 1)) ⊎ ((number : Li
 
 abbrev pub Asks : List (List ℕ) → ℕ → List (List ℕ) → Type 0
 Asks words times files = Names words times files × (0 < length files) × All IsFile files
+
+-- whatever the words ask for, it is these files, so many times each
+abbrev pub AsksOnly : List (List ℕ) → ℕ → List (List ℕ) → Type 0
+AsksOnly words times files = (n : ℕ) (names : List (List ℕ)) → Asks words n names → (n ≡ times) × (names ≡ files)
+
+-- the words ask for nothing
+abbrev pub AsksNothing : List (List ℕ) → Type 0
+AsksNothing words = (times : ℕ) (files : List (List ℕ)) → ¬ Asks words times files
+
+-- the words ask for something
+abbrev pub AsksSome : List (List ℕ) → Type 0
+AsksSome words = (times : ℕ) × (files : List (List ℕ)) × Asks words times files

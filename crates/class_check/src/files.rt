@@ -1,9 +1,9 @@
-ghost use Rattle.std.specs.Prelude.{◌≡◌, IsTrue, IfSome, IfOk, IfErr};
+ghost use Rattle.std.specs.Prelude.{◌≡◌, ◌↔◌, ◌≤◌, [], ◌∷◌, true, false, IsTrue, IfSome, IfOk, IfErr};
 ghost use Rattle.ti_port.specs.Port.{Rose};
 ghost use Rattle.class_check.specs.Checks.{Tells};
 ghost use Rattle.class_check.specs.Lines.{Says, IsAccepted};
-ghost use Rattle.class_check.specs.Files.{IsFault, AreAccepted, AcceptsAll};
-ghost use Rattle.class_check.specs.Words.{texts};
+ghost use Rattle.class_check.specs.Files.{IsFault, AreAccepted, AcceptsAll, TellsFiles, TellsFirst, TellsAll, TellsSome};
+ghost use Rattle.class_check.specs.Words.{texts, AsksNothing, AsksSome};
 
 use crate::check::{Checked, check_class};
 use crate::line::{Answer, line};
@@ -38,6 +38,7 @@ fn check_file<S: Store>(
 
     // Only after a failed fetch.
     ensures unreadable { IfOk result (λ answer. answer ≡ Answer.Unreadable → Rose (S.faults store.old) (S.faults store.new)) }
+    ensures risen { S.faults store.old ≤ S.faults store.new }
 {
     match store.fetch(alloc, name, CLASS_BYTES)? {
         Fetched::Found(bytes) => Ok(Answer::Read(check_often(alloc, &bytes, times)?)),
@@ -48,6 +49,7 @@ fn check_file<S: Store>(
 }
 
 /// Checks a file, writes its line, and says whether it was accepted.
+#[tactic(auto, using(crate::proofs::FilesTold::tells_one))]
 fn tell_file<S: Store, W: Write>(
     alloc: Global,
     store: &mut S,
@@ -57,7 +59,12 @@ fn tell_file<S: Store, W: Write>(
 ) -> Result<bool, Status>
     ensures files { S.files store.new ≡ S.files store.old }
     ensures told { IfOk result (λ accepted. IsTrue accepted → IfSome (S.files store.old) (λ files. IsAccepted (files name.now))) }
+    ensures line { IfOk result (TellsFiles (S.files store.old) (name.now ∷ []) (W.contents out.old) (W.contents out.new) (S.faults store.old) (S.faults store.new)) }
+    ensures risen { S.faults store.old ≤ S.faults store.new }
     ensures fault { IfErr result IsFault }
+
+    // Nothing was written.
+    ensures memory { IfErr result (λ status. status ≡ Status.OutOfMemory → out.new ≡ out.old) }
 {
     let answer = check_file(alloc, store, name, times)?;
     let text = line(alloc, name, answer)?;
@@ -74,8 +81,13 @@ fn tell_files<S: Store, W: Write>(
     names: &[String],
     times: u32,
 ) -> Result<bool, Status>
+    ensures files { S.files store.new ≡ S.files store.old }
     ensures told { IfOk result (λ all. IsTrue all → AreAccepted (S.files store.old) (texts names.now)) }
+    ensures lines { IfOk result (TellsFiles (S.files store.old) (texts names.now) (W.contents out.old) (W.contents out.new) (S.faults store.old) (S.faults store.new)) }
     ensures fault { IfErr result IsFault }
+
+    // The first files have their lines, and nothing else was written.
+    ensures memory { IfErr result (λ status. status ≡ Status.OutOfMemory → TellsFirst (S.files store.old) (texts names.now) (W.contents out.old) (W.contents out.new) (S.faults store.old) (S.faults store.new)) }
 {
     let mut all = true;
     for name in names {
@@ -85,7 +97,8 @@ fn tell_files<S: Store, W: Write>(
     Ok(all)
 }
 
-/// Does what the words ask for.
+/// Does what the words ask for. A line that cannot be written is the last one, and may be there in part.
+#[tactic(auto, using(crate::proofs::FilesTold::asked_told, crate::proofs::FilesTold::asked_first, crate::proofs::WordsAsked::asked_some))]
 pub fn check_all<S: Store, W: Write>(
     alloc: Global,
     words: &[String],
@@ -93,7 +106,22 @@ pub fn check_all<S: Store, W: Write>(
     out: &mut W,
 ) -> Status
     // Only where the words name files, and each is a class file.
-    ensures { result ≡ Status.Accepted → AcceptsAll (S.files store.old) (texts words.now) }
+    ensures accepted { result ≡ Status.Accepted → AcceptsAll (S.files store.old) (texts words.now) }
+
+    // Each file has its line.
+    ensures all_told { result ≡ Status.Accepted → TellsAll (S.files store.old) (texts words.now) (W.contents out.old) (W.contents out.new) (S.faults store.old) (S.faults store.new) true }
+    ensures told { result ≡ Status.NotAccepted → TellsAll (S.files store.old) (texts words.now) (W.contents out.old) (W.contents out.new) (S.faults store.old) (S.faults store.new) false }
+
+    // The first files have their lines, and nothing else was written.
+    ensures memory { result ≡ Status.OutOfMemory → TellsSome (S.files store.old) (texts words.now) (W.contents out.old) (W.contents out.new) (S.faults store.old) (S.faults store.new) }
+
+    // Only where the words ask for something.
+    ensures write { result ≡ Status.WriteFault → AsksSome (texts words.now) }
+
+    // Just where the words ask for nothing, and then nothing is done.
+    ensures usage { (result ≡ Status.Usage) ↔ AsksNothing (texts words.now) }
+    ensures idle { result ≡ Status.Usage → (store.new ≡ store.old) × (out.new ≡ out.old) }
+    ensures files { S.files store.new ≡ S.files store.old }
 {
     let Some(request) = read_request(words) else {
         return Status::Usage;

@@ -1,5 +1,5 @@
-ghost use Rattle.std.specs.Prelude.{◌↔◌, SomeIff, IsTrue, IfSome, All, string_bytes};
-ghost use Rattle.class_check.specs.Words.{texts, IsFile, IsTimes, times_value, Names, Asks};
+ghost use Rattle.std.specs.Prelude.{◌↔◌, SomeIff, IsTrue, IfSome, IfNone, All, string_bytes};
+ghost use Rattle.class_check.specs.Words.{texts, IsFile, IsTimes, times_value, Names, Asks, AsksOnly, AsksNothing};
 
 /// What the words ask for.
 #[derive(Clone, Copy)]
@@ -32,7 +32,11 @@ fn times_of(word: &str) -> Option<u32>
 
 /// The times and the names, before it is known that they are files' names.
 fn split(words: &[String]) -> Option<(u32, &[String])>
-    ensures { IfSome result (λ both. Names (texts words.now) both.0 (texts both.1.now)) }
+    ensures named { IfSome result (λ both. Names (texts words.now) both.0 (texts both.1.now)) }
+
+    // Nothing else is asked.
+    ensures only { IfSome result (λ both. AsksOnly (texts words.now) both.0 (texts both.1.now)) }
+    ensures nothing { IfNone result (AsksNothing (texts words.now)) }
 {
     let Some((option, rest)) = words.split_first() else {
         return Some((1, words));
@@ -52,7 +56,11 @@ fn are_files(words: &[String]) -> bool
 
 /// Reads the words `FILE..` or `--times N FILE..`. No others are accepted. It takes no memory.
 pub fn read_request(words: &[String]) -> Option<Request<'_>>
-    ensures { IfSome result (λ r. Asks (texts words.now) r.times (texts r.files.now)) }
+    ensures asked { IfSome result (λ r. Asks (texts words.now) r.times (texts r.files.now)) }
+
+    // Nothing else is asked.
+    ensures only { IfSome result (λ r. AsksOnly (texts words.now) r.times (texts r.files.now)) }
+    ensures nothing { IfNone result (AsksNothing (texts words.now)) }
 {
     let (times, files) = split(words)?;
     if files.is_empty() || !are_files(files) {

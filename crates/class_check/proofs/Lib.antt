@@ -1,0 +1,2 @@
+pub mod FilesTold
+pub mod WordsAsked
