@@ -9,7 +9,7 @@ use Rattle.class_tree.specs.Trees.{Tree}
 use Rattle.class_tree.specs.Tree.{code_of}
 use Rattle.type_frames.specs.Hierarchies.{Known}
 use Rattle.type_frames.specs.States.{State}
-use Rattle.type_frames.specs.TypeChecks.{Checked, checked, map_in, is_bad_map, offends_at_once, AreStates, IsOffending, IsOffendingIn, FailsIn, Fails, ChecksIn, TypeChecks}
+use Rattle.type_frames.specs.TypeChecks.{Checked, checked, map_in, is_bad_map, offends_at_once, AreStates, IsOffending, IsOffendingIn, FailsIn, Fails, ChecksIn, TypeChecks, ClassPasses, ClassFails}
 use Rattle.type_frames.proofs.StateLaws.{offset_is}
 
 -- ---- one offset
@@ -66,3 +66,23 @@ pub not_both : (h : Known) (t : Tree) (place offset : ℕ) (states : List State)
 not_both h t place offset states x y =
     never_in h t place x.0 (code_of x.0.attrs) offset states x.2
     (subst (λ (m : Member). ChecksIn h t place m (code_of m.attrs) states) (member_is h t place x.0 y.0 x.1 y.1) y.2)
+
+-- ---- a class
+
+module _ (h : Known) (t : Tree) where
+  first_is : (a b x y : ℕ) → ClassFails h t a x → ClassFails h t b y → a < b → ⊥
+  first_is a b x y f g lt = let passes = g.earlier a lt in not_both h t a x passes.0 f.fails passes.1
+
+  same_method : (a b x y : ℕ) → ClassFails h t a x → ClassFails h t b y → a ≡ b
+  same_method a b x y f g = ⊎_elim (λ lt. absurd (first_is a b x y f g lt)) (λ le. ⊎_elim (λ gt. absurd (first_is b a y x g f gt)) (λ ge. omega arith) (cases_lt b a)) (cases_lt a b)
+
+pub one_fault : (h : Known) (t : Tree) (place offset other at : ℕ) → ClassFails h t place offset → ClassFails h t other at → (place ≡ other) × (offset ≡ at)
+one_fault h t place offset other at f g =
+    let same : place ≡ other = same_method h t place other offset at f g in
+    (same, one_offset h t other offset at (subst (λ k. Fails h t k offset) same f.fails) g.fails)
+
+pub not_both_of_class : (h : Known) (t : Tree) (place offset : ℕ) → ClassFails h t place offset → ClassPasses h t → ⊥
+not_both_of_class h t place offset f passes =
+    let within : place < length t.methods = slice_get_within t.methods place f.fails.0 f.fails.1 in
+    let passed = passes place within in
+    not_both h t place offset passed.0 f.fails passed.1

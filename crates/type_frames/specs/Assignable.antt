@@ -1,4 +1,4 @@
--- Which type may stand for which (JVM specification 4.10.1.2 and 4.10.1.3).
+-- Which type may stand for which (JVM specification 4.10.1.2).
 use Rattle.std.specs.Prelude.{◌≡◌, ℕ, zero, suc, ◌==◌, Bool, true, false, ◌&&◌, ◌||◌, List, [], ◌∷◌, codes, bytes_eq}
 use Rattle.std.specs.List.{list_any}
 use Rattle.jv_names.specs.Names.{Name}

@@ -52,15 +52,15 @@ array_load_rule env e s =
     taken env.hierarchy vtype.Integer s >>= λ a. top_if (holds env.hierarchy e) a >>= λ array. loaded e array.0 >>= λ t. put env.max_stack t array.1
 
 -- what is stored in an array: in one of references, any reference to an initialized object
-abbrev pub element_type : Element → VType
-element_type element.Long = vtype.Long
-element_type element.Reference = vtype.Object object_name
-element_type e = vtype.Integer
+abbrev pub stored_type : Element → VType
+stored_type element.Long = vtype.Long
+stored_type element.Reference = vtype.Object object_name
+stored_type e = vtype.Integer
 
 -- `iastore` to `sastore`
 abbrev pub array_store_rule : Environment → Element → State → Option State
 array_store_rule env e s =
-    all_taken env.hierarchy (element_type e ∷ vtype.Integer ∷ []) s >>= λ a. top_if (holds env.hierarchy e) a >>= λ array. Some array.1
+    all_taken env.hierarchy (stored_type e ∷ vtype.Integer ∷ []) s >>= λ a. top_if (holds env.hierarchy e) a >>= λ array. Some array.1
 
 abbrev pub is_any_array : VType → Bool
 is_any_array vtype.Null = true

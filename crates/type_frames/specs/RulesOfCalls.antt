@@ -8,7 +8,7 @@ use Rattle.jv_names.specs.declared.descriptor.MethodType.{MethodType}
 use Rattle.class_code.specs.declared.instr.Kind.{Kind}
 use Rattle.type_frames.specs.declared.vtype.VType.{VType}
 use Rattle.type_frames.specs.declared.vtype.VType.TheVariants as vtype
-use Rattle.type_frames.specs.Types.{field_vtype, expanded}
+use Rattle.type_frames.specs.Types.{field_vtype, expanded, is_uninit_this}
 use Rattle.type_frames.specs.Assignable.{is_assignable}
 use Rattle.type_frames.specs.States.{State, top_if, taken, all_taken}
 use Rattle.type_frames.specs.Environments.{Environment, Reference, method_at, method_type, made_at}
@@ -87,16 +87,12 @@ is_same_uninit t of = false
 abbrev pub replaced : VType → VType → VType → VType
 replaced uninit made t = if is_same_uninit uninit t then made else t
 
-abbrev pub is_this : VType → Bool
-is_this vtype.UninitThis = true
-is_this t = false
-
 -- wherever the object is, it has its type now
 abbrev pub with_initialized : VType → VType → State → State
 with_initialized uninit made s = record {
   locals = map (replaced uninit made) s.locals;
   stack = map (replaced uninit made) s.stack;
-  this_uninit = s.this_uninit && not (is_this uninit);
+  this_uninit = s.this_uninit && not (is_uninit_this uninit);
 }
 
 abbrev pub is_any : VType → Bool

@@ -9,7 +9,7 @@ use Rattle.class_tree.specs.declared.pool.Const.TheVariants as const
 use Rattle.class_tree.specs.Tree.{entry_at, class_at}
 use Rattle.type_frames.specs.declared.vtype.VType.{VType}
 use Rattle.type_frames.specs.declared.vtype.VType.TheVariants as vtype
-use Rattle.type_frames.specs.Types.{is_array, field_vtype}
+use Rattle.type_frames.specs.Types.{is_array, field_vtype, is_uninit_this}
 use Rattle.type_frames.specs.Assignable.{object_name}
 use Rattle.type_frames.specs.States.{State, top_if, taken, put}
 use Rattle.type_frames.specs.Environments.{Environment, Reference, field_at, field_type}
@@ -50,13 +50,9 @@ put_static_rule env index s = typed_field env index >>= λ f. taken env.hierarch
 abbrev pub get_field_rule : Environment → ℕ → State → Option State
 get_field_rule env index s = typed_field env index >>= λ f. moved env (vtype.Object f.0.class ∷ []) (f.1 ∷ []) s
 
-abbrev pub is_this_uninit : VType → Bool
-is_this_uninit vtype.UninitThis = true
-is_this_uninit t = false
-
 -- An `<init>` may set a field of the current class before it calls another `<init>`.
 abbrev pub put_own_field : Environment → Reference → State → Option State
-put_own_field env f s = if env.is_init && bytes_eq f.class env.class then (top_if is_this_uninit s >>= λ p. Some p.1) else None
+put_own_field env f s = if env.is_init && bytes_eq f.class env.class then (top_if is_uninit_this s >>= λ p. Some p.1) else None
 
 abbrev pub put_field_rule : Environment → ℕ → State → Option State
 put_field_rule env index s =

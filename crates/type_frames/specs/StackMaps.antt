@@ -17,7 +17,7 @@ use Rattle.class_tree.specs.Tree.{class_at}
 use Rattle.type_frames.specs.declared.vtype.VType.{VType}
 use Rattle.type_frames.specs.declared.vtype.VType.TheVariants as vtype
 use Rattle.type_frames.specs.declared.frame.MapFrame.{MapFrame}
-use Rattle.type_frames.specs.Types.{expanded}
+use Rattle.type_frames.specs.Types.{expanded, is_uninit_this}
 
 -- ---- types
 
@@ -79,10 +79,6 @@ stack_after pool e = []
 -- each local variable has a type; one that isn't listed has `Top`
 abbrev pub filled : ℕ → List VType → List VType
 filled max_locals types = expanded types ++ replicate (max_locals - length (expanded types)) vtype.Top
-
-abbrev pub is_uninit_this : VType → Bool
-is_uninit_this vtype.UninitThis = true
-is_uninit_this t = false
 
 -- what the map of a method is read against: the constant pool, the words of its locals and of its stack, and its instructions
 pub record Bounds : Type 0 where

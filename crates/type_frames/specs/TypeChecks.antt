@@ -20,7 +20,7 @@ use Rattle.type_frames.specs.declared.vtype.VType.TheVariants as vtype
 use Rattle.type_frames.specs.declared.frame.MapFrame.{MapFrame}
 use Rattle.type_frames.specs.Types.{expanded, field_vtype}
 use Rattle.type_frames.specs.Hierarchies.{Known, chain, is_final, has_final}
-use Rattle.type_frames.specs.Assignable.{object_name, is_assignable, are_words_assignable}
+use Rattle.type_frames.specs.Assignable.{object_name, is_assignable, are_assignable, are_words_assignable}
 use Rattle.type_frames.specs.States.{State}
 use Rattle.type_frames.specs.StackMaps.{Bounds, filled, frames_from}
 use Rattle.type_frames.specs.Environments.{Environment, method_type}
@@ -119,9 +119,9 @@ map_frames (Err place) = []
 abbrev pub mapped : Checked → ℕ → Option State
 mapped m at = find (λ f. f.at == at) (map_frames m.map) >>= λ f. Some (state_of f)
 
--- a state may be taken for another one: section 4.10.1.4
+-- A state may be taken for another one: section 4.10.1.4. Locals are listed by words already, the stack by values.
 abbrev pub is_state_assignable : Known → State → State → Bool
-is_state_assignable h s of = are_words_assignable h s.locals of.locals && are_words_assignable h s.stack of.stack && (not s.this_uninit || of.this_uninit)
+is_state_assignable h s of = are_assignable h s.locals of.locals && are_words_assignable h s.stack of.stack && (not s.this_uninit || of.this_uninit)
 
 -- the stack map has a state at an offset for which this one may be taken
 abbrev pub is_accepted_at : Checked → ℤ → State → Bool
@@ -253,3 +253,16 @@ ChecksIn h t place m (Some code) states = IsTrue (not (offends_at_once h t place
 -- The method at a place passes its type check, with these type states.
 abbrev pub TypeChecks : Known → Tree → ℕ → List State → Type 0
 TypeChecks h t place states = (m : Member) × (slice_get t.methods place ≡ Some m) × ChecksIn h t place m (code_of m.attrs) states
+
+-- some states are those of the method at a place
+abbrev pub Passes : Known → Tree → ℕ → Type 0
+Passes h t place = (states : List State) × TypeChecks h t place states
+
+-- The class passes its type check: each of its methods does.
+abbrev pub ClassPasses : Known → Tree → Type 0
+ClassPasses h t = (place : ℕ) → place < length t.methods → Passes h t place
+
+-- The class fails its type check, first in the method at this place, in the order of the file, and there at this offset.
+pub record ClassFails (h : Known) (t : Tree) (place offset : ℕ) : Type 0 where
+  pub fails : Fails h t place offset
+  pub earlier : (k : ℕ) → k < place → Passes h t k

@@ -87,6 +87,10 @@ abbrev pub is_long : VType → Bool
 is_long vtype.Long = true
 is_long t = false
 
+abbrev pub is_uninit_this : VType → Bool
+is_uninit_this vtype.UninitThis = true
+is_uninit_this t = false
+
 -- whatever refers to an object, initialized or not, or is null
 abbrev pub is_reference : VType → Bool
 is_reference vtype.Null = true
