@@ -1,0 +1,9 @@
+pub mod Found
+pub mod Chains
+pub mod Walks
+pub mod Bases
+pub mod Standing
+pub mod StateLaws
+pub mod MethodLaws
+pub mod Fitting
+pub mod Formed

@@ -1,0 +1,6 @@
+use Rattle.std.proofs.Common.{◌∙◌, rules, arith}
+use Rattle.type_frames.proofs.Bases.{base_behind_at}
+use Rattle.type_frames.proofs.assigning.base_text.Goals as goal
+
+pub returns : goal.returns
+returns c = c.plain_base.ensures ∙ base_behind_at c.args.name.now c.split_at.result.1.now c.args.count c.requires.count (search rules) (omega arith)

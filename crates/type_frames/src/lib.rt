@@ -1,0 +1,25 @@
+//! What the type checker of class files speaks of (JVM specification 4.10.1): verification types, type states, stack maps, the
+//! hierarchy of classes, and the rule of each instruction. `type_verify` checks classes by them.
+//!
+//! The definitions in `specs/` are in the order of `specs/Lib.antt`: types (`Types`), classes (`Hierarchies`), which type may
+//! stand for which (`Assignable`), type states (`States`), stack maps (`StackMaps`), the rules of the instructions by family
+//! (`RulesOf..`, joined in `Rules`), and what the type check of a method and of a class is (`TypeChecks`).
+#![tactic(auto)]
+
+mod assigning;
+mod fault;
+mod frame;
+mod hierarchy;
+mod known;
+mod laws;
+mod listed;
+mod vtype;
+mod words;
+
+pub use assigning::assignable;
+pub use fault::MapFault;
+pub use frame::{MapFrame, Typed, TypedCode};
+pub use hierarchy::{HierarchyClass, Signature};
+pub use known::Hierarchy;
+pub use laws::type_laws;
+pub use vtype::VType;
