@@ -13,6 +13,8 @@ mod hierarchy;
 mod known;
 mod laws;
 mod listed;
+#[cfg(test)]
+mod tests;
 mod vtype;
 mod words;
 
