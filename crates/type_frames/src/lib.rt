@@ -13,15 +13,17 @@ mod hierarchy;
 mod known;
 mod laws;
 mod listed;
+mod seen;
 #[cfg(test)]
 mod tests;
 mod vtype;
 mod words;
 
-pub use assigning::assignable;
+pub use assigning::{assignable, stands_for};
 pub use fault::MapFault;
 pub use frame::{MapFrame, Typed, TypedCode};
 pub use hierarchy::{HierarchyClass, Signature};
 pub use known::Hierarchy;
 pub use laws::type_laws;
+pub use seen::{ClassName, VTypeRef};
 pub use vtype::VType;

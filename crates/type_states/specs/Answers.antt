@@ -1,0 +1,17 @@
+-- What a step of the check answers, and the state that it leaves.
+use Rattle.std.specs.Prelude.{◌≡◌, Option, None, Some, Result, Ok, Err}
+use Rattle.type_frames.specs.States.{State}
+use Rattle.type_states.specs.declared.stop.Stop.{Stop}
+use Rattle.type_states.specs.declared.stop.Stop.TheVariants.{Refused, Memory}
+
+-- it leaves what the rule leaves, and refuses just where the rule refuses, unless memory ran out
+abbrev pub Leaves : {A : Type 0} → Result A Stop → State → Option State → Type 0
+Leaves (Ok done) s left = left ≡ Some s
+Leaves (Err Refused) s left = left ≡ None
+Leaves (Err Memory) s left = Unit {0}
+
+-- the same of one that answers a value, as `view` sees it
+abbrev pub Gives : {A B : Type 0} → (A → B) → Result A Stop → State → Option (B × State) → Type 0
+Gives view (Ok x) s given = given ≡ Some (view x, s)
+Gives view (Err Refused) s given = given ≡ None
+Gives view (Err Memory) s given = Unit {0}
