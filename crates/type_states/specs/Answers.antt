@@ -1,6 +1,9 @@
 -- What a step of the check answers, and the state that it leaves.
-use Rattle.std.specs.Prelude.{◌≡◌, Option, None, Some, Result, Ok, Err}
+use Rattle.std.specs.Prelude.{◌≡◌, ℕ, Option, None, Some, Result, Ok, Err}
+use Rattle.ti_ids.specs.Maybe.{◌>>=◌}
+use Rattle.type_frames.specs.declared.vtype.VType.{VType}
 use Rattle.type_frames.specs.States.{State}
+use Rattle.type_frames.specs.RulesOfLocals.{stored}
 use Rattle.type_states.specs.declared.stop.Stop.{Stop}
 use Rattle.type_states.specs.declared.stop.Stop.TheVariants.{Refused, Memory}
 
@@ -15,3 +18,7 @@ abbrev pub Gives : {A B : Type 0} → (A → B) → Result A Stop → State → 
 Gives view (Ok x) s given = given ≡ Some (view x, s)
 Gives view (Err Refused) s given = given ≡ None
 Gives view (Err Memory) s given = Unit {0}
+
+-- a state in which a local variable is set
+abbrev pub stored_in : ℕ → VType → State → Option State
+stored_in place t s = stored place t s.locals >>= λ locals. Some (record s { locals = locals })

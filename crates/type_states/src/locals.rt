@@ -1,12 +1,11 @@
 //! How instructions read and set local variables, and what becomes of objects that are not initialized.
-ghost use Rattle.std.specs.Prelude.{◌≡◌, map, Some, option_map, slice_get};
+ghost use Rattle.std.specs.Prelude.{◌≡◌, map, option_map, slice_get};
 ghost use Rattle.std.specs.List.{list_any};
-ghost use Rattle.ti_ids.specs.Maybe.{◌>>=◌};
-ghost use Rattle.type_frames.specs.RulesOfLocals.{stored, without_long_before};
+ghost use Rattle.type_frames.specs.RulesOfLocals.{without_long_before};
 ghost use Rattle.type_frames.specs.RulesOfFields.{is_uninit_at as uninit_at, topped};
 ghost use Rattle.type_frames.specs.RulesOfCalls.{with_initialized, replaced};
 ghost use Rattle.type_frames.specs.Seen.{type_seen};
-ghost use Rattle.type_states.specs.Answers.{Leaves};
+ghost use Rattle.type_states.specs.Answers.{Leaves, stored_in};
 
 use crate::kinds::{is_long, is_same_uninit, is_uninit_at, is_uninit_this};
 use crate::{State, Stop};
@@ -42,7 +41,7 @@ impl<'a> State<'a> {
 
     /// Sets the local variable at a place: a long takes the next one too, and a long that this cuts through ends.
     pub fn store(&mut self, place: u16, t: VTypeRef<'a>) -> Result<(), Stop>
-        ensures { Leaves result self.new (stored place (type_seen t.entry) self.old.locals >>= λ locals. Some (record self.old { locals = locals })) }
+        ensures { Leaves result self.new (stored_in place (type_seen t.entry) self.old) }
     {
         let place = usize::from(place);
         let last = if is_long(t) { place + 1 } else { place };

@@ -1,5 +1,5 @@
 //! How instructions take types from the operand stack, and put types on it.
-ghost use Rattle.std.specs.Prelude.{◌≡◌, ◌+◌, ◌<◌, ◌^◌, ◌∷◌, map, length, Some, None, option_map, slice_get};
+ghost use Rattle.std.specs.Prelude.{◌≡◌, map, length, is_some};
 ghost use Rattle.type_frames.specs.Types.{type_words};
 ghost use Rattle.type_frames.specs.States.{taken, all_taken, put, all_put, top_if};
 ghost use Rattle.type_frames.specs.RulesOfCalls.{is_any};
@@ -10,6 +10,7 @@ ghost use Rattle.type_states.specs.Answers.{Leaves, Gives};
 
 use crate::kinds::{is_long, is_reference, is_word};
 use crate::{State, Stop};
+use std::alloc::AllocError;
 use type_frames::{Hierarchy, VTypeRef, stands_for};
 
 /// How many words a value of a type takes.
@@ -93,7 +94,7 @@ impl<'a> State<'a> {
 
     /// Whether the top is a long.
     pub fn has_long(&self) -> bool
-        ensures { (two self.now ≡ None) ⊎ IsTrue result }
+        ensures { result ≡ is_some (two self.now) }
     {
         match self.stack.last() {
             Some(top) => is_long(*top),
@@ -109,7 +110,9 @@ impl<'a> State<'a> {
         if words > u32::from(room) {
             return Err(Stop::Refused);
         }
-        self.stack.push(t)?;
+        if let Err(full) = self.stack.push(t) {
+            return Err(AllocError::from(full).into());
+        }
         self.words = words;
         Ok(())
     }

@@ -29,7 +29,7 @@ impl<'a> Model for State<'a> {
 impl<'a> State<'a> {
     /// A state with an empty operand stack.
     pub fn new(alloc: Global, locals: Vec<VTypeRef<'a>>, this_uninit: bool) -> State<'a>
-        ensures { result ≡ record { locals = map type_seen locals.items; stack = []; this_uninit = this_uninit } }
+        ensures { result ≡ record { locals = map type_seen locals.entry.items; stack = []; this_uninit = this_uninit } }
     {
         State {
             locals,
