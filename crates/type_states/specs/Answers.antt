@@ -19,6 +19,12 @@ Gives view (Ok x) s given = given ≡ Some (view x, s)
 Gives view (Err Refused) s given = given ≡ None
 Gives view (Err Memory) s given = Unit {0}
 
+-- the same of what stands in no state: the value that is found, or that there is none
+abbrev pub Names : {A B : Type 0} → (A → B) → Result A Stop → Option B → Type 0
+Names view (Ok x) found = found ≡ Some (view x)
+Names view (Err Refused) found = found ≡ None
+Names view (Err Memory) found = Unit {0}
+
 -- a state in which a local variable is set
 abbrev pub stored_in : ℕ → VType → State → Option State
 stored_in place t s = stored place t s.locals >>= λ locals. Some (record s { locals = locals })
