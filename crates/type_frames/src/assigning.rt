@@ -39,7 +39,7 @@ pub(crate) fn is_text(units: &[u16], text: &[u8]) -> bool
 }
 
 /// The name of a class's superclass, where the class is known and has one.
-fn superclass_of<'a>(hierarchy: &'a Hierarchy, name: &[u16]) -> Option<&'a [u16]>
+pub(crate) fn superclass_of<'a>(hierarchy: &'a Hierarchy, name: &[u16]) -> Option<&'a [u16]>
     ensures { option_copied result ≡ superclass hierarchy.now name.now }
 {
     match &hierarchy.named(name)?.superclass {

@@ -8,6 +8,7 @@
 
 mod assigning;
 mod fault;
+mod finals;
 mod frame;
 mod hierarchy;
 mod known;
@@ -21,6 +22,7 @@ mod words;
 
 pub use assigning::{assignable, stands_for};
 pub use fault::MapFault;
+pub use finals::{has_final_above, is_final};
 pub use frame::{MapFrame, Typed, TypedCode};
 pub use hierarchy::{HierarchyClass, Signature};
 pub use known::Hierarchy;

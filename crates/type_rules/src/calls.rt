@@ -4,12 +4,12 @@ ghost use Rattle.class_code.specs.Listing.{IsRising};
 ghost use Rattle.type_frames.specs.States.{all_taken, all_put};
 ghost use Rattle.type_frames.specs.Seen.{type_seen};
 ghost use Rattle.type_frames.specs.Environments.{method_at as method_named};
-ghost use Rattle.type_frames.specs.RulesOfCalls.{is_init_name as names_init, is_special as names_special, is_parent as names_parent, called as called_by, named_method as method_of, plain_method as plain_method_of, invoke_static_rule, invoke_virtual_rule, invoke_interface_rule, invoke_super_rule, initialized as type_initialized, invoke_init_rule, invoke_special_rule};
-ghost use Rattle.type_rules.specs.Methods.{env_of, reference_seen, signature_seen, method_seen, words_counted};
+ghost use Rattle.type_frames.specs.RulesOfCalls.{is_init_name as names_init, is_special as names_special, is_parent as names_parent, called as called_by, argument_words, named_method as method_of, plain_method as plain_method_of, invoke_static_rule, invoke_virtual_rule, invoke_interface_rule, invoke_super_rule, initialized as type_initialized, invoke_init_rule, invoke_special_rule};
+ghost use Rattle.type_rules.specs.Methods.{env_of, reference_seen, method_vtype_seen, member_seen, method_seen};
 ghost use Rattle.type_states.specs.Answers.{Leaves, Names};
 
 use crate::Method;
-use crate::fields::{Reference, reference_of};
+use crate::fields::{MemberRef, reference_of};
 use class_tree::{ClassFile, Const};
 use descriptor_types::{MethodRefs, method_refs};
 use jv_names::Units;
@@ -31,7 +31,7 @@ fn is_special(name: &Units) -> bool
 }
 
 /// A class's method or an interface's.
-fn method_at(tree: &ClassFile, index: u16) -> Option<Reference<'_>>
+fn method_at(tree: &ClassFile, index: u16) -> Option<MemberRef<'_>>
     ensures { option_map reference_seen result ≡ method_named tree.now.pool index }
 {
     match tree.entry_at(index)? {
@@ -46,7 +46,7 @@ fn named_method<'a>(
     alloc: Global,
     method: &Method<'a>,
     index: u16,
-) -> Result<(Reference<'a>, MethodRefs<'a>), Stop>
+) -> Result<(MemberRef<'a>, MethodRefs<'a>), Stop>
     ensures { Names method_seen result (method_of (env_of method.now) index) }
 {
     let Some(called) = method_at(method.tree, index) else {
@@ -63,7 +63,7 @@ fn plain_method<'a>(
     alloc: Global,
     method: &Method<'a>,
     index: u16,
-) -> Result<(Reference<'a>, MethodRefs<'a>), Stop>
+) -> Result<(MemberRef<'a>, MethodRefs<'a>), Stop>
     ensures { Names method_seen result (plain_method_of (env_of method.now) index) }
 {
     let (called, refs) = named_method(alloc, method, index)?;
@@ -75,7 +75,7 @@ fn plain_method<'a>(
 
 /// Takes the arguments, the last one of which is on top.
 fn take_arguments(method: &Method<'_>, refs: &MethodRefs<'_>, state: &mut State<'_>) -> Result<(), Stop>
-    ensures { Leaves result state.new (all_taken method.now.hierarchy.now (reverse (map type_seen refs.now.parameters)) state.old) }
+    ensures { Leaves result state.new (all_taken method.now.hierarchy.now (reverse (map type_seen refs.now.parameters.items)) state.old) }
 {
     for t in refs.parameters.as_slice().iter().rev() {
         state.take(method.hierarchy, *t)?;
@@ -109,11 +109,11 @@ pub(crate) fn invoke_static<'a>(
 /// Takes the arguments and an object of the class below them, and puts the result.
 fn call<'a>(
     method: &Method<'a>,
-    called: Reference<'a>,
+    called: MemberRef<'a>,
     refs: &MethodRefs<'a>,
     state: &mut State<'a>,
 ) -> Result<(), Stop>
-    ensures { Leaves result state.new (called_by (env_of method.now) called.entry.class.now (signature_seen refs.now) state.old) }
+    ensures { Leaves result state.new (called_by (env_of method.now) called.entry.class.now (method_vtype_seen refs.now) state.old) }
 {
     take_arguments(method, refs, state)?;
     state.take(method.hierarchy, called.object())?;
@@ -133,8 +133,8 @@ pub(crate) fn invoke_virtual<'a>(
 }
 
 /// The words of the arguments and of the object, as far as they are at most 255; above it, 256.
-fn argument_words(refs: &MethodRefs<'_>) -> u16
-    ensures { result ≡ min 256 (words_counted refs.now) }
+fn words_of_arguments(refs: &MethodRefs<'_>) -> u16
+    ensures { result ≡ min 256 (argument_words (method_vtype_seen refs.now)) }
 {
     let mut words = 1;
     for t in refs.parameters.as_slice() {
@@ -153,7 +153,7 @@ pub(crate) fn invoke_interface<'a>(
     ensures { Leaves result state.new (invoke_interface_rule (env_of method.now) index count state.old) }
 {
     let (called, refs) = plain_method(alloc, method, index)?;
-    if u16::from(count) != argument_words(&refs) {
+    if u16::from(count) != words_of_arguments(&refs) {
         return Err(Stop::Refused);
     }
     call(method, called, &refs, state)
@@ -162,11 +162,11 @@ pub(crate) fn invoke_interface<'a>(
 /// `invokespecial` of another method than an `<init>`, of a class that the current one may stand for: the object is of both.
 fn invoke_super<'a>(
     method: &Method<'a>,
-    called: Reference<'a>,
+    called: MemberRef<'a>,
     refs: &MethodRefs<'a>,
     state: &mut State<'a>,
 ) -> Result<(), Stop>
-    ensures { Leaves result state.new (invoke_super_rule (env_of method.now) (method_seen (called.entry, refs.now)) state.old) }
+    ensures { Leaves result state.new (invoke_super_rule (env_of method.now) (member_seen called.entry refs.now) state.old) }
 {
     let this = VTypeRef::Object(ClassName::Named(method.class.as_slice()));
     if !stands_for(method.hierarchy, this, called.object()) {
@@ -220,12 +220,12 @@ fn initialized<'a>(method: &Method<'a>, class: &Units, object: VTypeRef<'_>) -> 
 
 fn invoke_init<'a>(
     method: &Method<'a>,
-    called: Reference<'a>,
+    called: MemberRef<'a>,
     refs: &MethodRefs<'a>,
     state: &mut State<'a>,
 ) -> Result<(), Stop>
     requires { IsRising method.now.instrs.now }
-    ensures { Leaves result state.new (invoke_init_rule (env_of method.now) (method_seen (called.entry, refs.now)) state.old) }
+    ensures { Leaves result state.new (invoke_init_rule (env_of method.now) (member_seen called.entry refs.now) state.old) }
 {
     if refs.result.is_some() {
         return Err(Stop::Refused);

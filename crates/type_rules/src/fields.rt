@@ -12,19 +12,18 @@ use crate::numbers::moved;
 use class_tree::{ClassFile, Const};
 use descriptor_types::field_ref_checked;
 use jv_names::Units;
-use std::alloc::Global;
 use type_frames::{ClassName, VTypeRef, stands_for};
 use type_states::{State, Stop};
 
 /// A field or a method as the constant pool names it (4.4.2).
 #[derive(Clone, Copy)]
-pub(crate) struct Reference<'a> {
+pub(crate) struct MemberRef<'a> {
     pub(crate) class: &'a Units,
     pub(crate) name: &'a Units,
     pub(crate) desc: &'a Units,
 }
 
-impl<'a> Reference<'a> {
+impl<'a> MemberRef<'a> {
     /// An object of the class.
     pub(crate) fn object(&self) -> VTypeRef<'a>
         ensures { type_seen result ≡ Object self.now.class.now }
@@ -34,15 +33,15 @@ impl<'a> Reference<'a> {
 }
 
 /// The class, the name and the descriptor of two entries.
-pub(crate) fn reference_of(tree: &ClassFile, class: u16, pair: u16) -> Option<Reference<'_>>
+pub(crate) fn reference_of(tree: &ClassFile, class: u16, pair: u16) -> Option<MemberRef<'_>>
     ensures { option_map reference_seen result ≡ reference_of tree.now.pool class pair }
 {
     let class = tree.class_at(class)?;
     let (name, desc) = tree.name_type_at(pair)?;
-    Some(Reference { class, name, desc })
+    Some(MemberRef { class, name, desc })
 }
 
-fn field_at(tree: &ClassFile, index: u16) -> Option<Reference<'_>>
+fn field_at(tree: &ClassFile, index: u16) -> Option<MemberRef<'_>>
     ensures { option_map reference_seen result ≡ field_named tree.now.pool index }
 {
     match tree.entry_at(index)? {
@@ -53,59 +52,55 @@ fn field_at(tree: &ClassFile, index: u16) -> Option<Reference<'_>>
 
 /// The field that the pool names, and its type.
 fn typed_field<'a>(
-    alloc: Global,
     method: &Method<'a>,
     index: u16,
-) -> Result<(Reference<'a>, VTypeRef<'a>), Stop>
+) -> Result<(MemberRef<'a>, VTypeRef<'a>), Stop>
     ensures { Names field_seen result (field_typed (env_of method.now) index) }
 {
     let Some(field) = field_at(method.tree, index) else {
         return Err(Stop::Refused);
     };
-    match field_ref_checked(alloc, field.desc)? {
+    match field_ref_checked(field.desc) {
         Some(t) => Ok((field, t)),
         None => Err(Stop::Refused),
     }
 }
 
 pub(crate) fn get_static<'a>(
-    alloc: Global,
     method: &Method<'a>,
     index: u16,
     state: &mut State<'a>,
 ) -> Result<(), Stop>
     ensures { Leaves result state.new (get_static_rule (env_of method.now) index state.old) }
 {
-    let (_, t) = typed_field(alloc, method, index)?;
+    let (_, t) = typed_field(method, index)?;
     state.put(method.max_stack, t)
 }
 
 pub(crate) fn put_static<'a>(
-    alloc: Global,
     method: &Method<'a>,
     index: u16,
     state: &mut State<'a>,
 ) -> Result<(), Stop>
     ensures { Leaves result state.new (put_static_rule (env_of method.now) index state.old) }
 {
-    let (_, t) = typed_field(alloc, method, index)?;
+    let (_, t) = typed_field(method, index)?;
     state.take(method.hierarchy, t)
 }
 
 pub(crate) fn get_field<'a>(
-    alloc: Global,
     method: &Method<'a>,
     index: u16,
     state: &mut State<'a>,
 ) -> Result<(), Stop>
     ensures { Leaves result state.new (get_field_rule (env_of method.now) index state.old) }
 {
-    let (field, t) = typed_field(alloc, method, index)?;
+    let (field, t) = typed_field(method, index)?;
     moved(method, &[field.object()], &[t], state)
 }
 
 /// Whether an `<init>` may set this field of the object that it has to initialize still: it is one of the current class.
-fn is_own_field(method: &Method<'_>, field: Reference<'_>, object: VTypeRef<'_>) -> bool
+fn is_own_field(method: &Method<'_>, field: MemberRef<'_>, object: VTypeRef<'_>) -> bool
     ensures { result ≡ may_put_own (env_of method.now) (reference_seen field.entry) (type_seen object.entry) }
 {
     method.is_init
@@ -114,14 +109,13 @@ fn is_own_field(method: &Method<'_>, field: Reference<'_>, object: VTypeRef<'_>)
 }
 
 pub(crate) fn put_field<'a>(
-    alloc: Global,
     method: &Method<'a>,
     index: u16,
     state: &mut State<'a>,
 ) -> Result<(), Stop>
     ensures { Leaves result state.new (put_field_rule (env_of method.now) index state.old) }
 {
-    let (field, t) = typed_field(alloc, method, index)?;
+    let (field, t) = typed_field(method, index)?;
     state.take(method.hierarchy, t)?;
     let object = state.take_any()?;
     if stands_for(method.hierarchy, object, field.object()) || is_own_field(method, field, object) {

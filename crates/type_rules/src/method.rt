@@ -1,7 +1,7 @@
 ghost use Rattle.std.specs.Prelude.{◌≡◌, option_copied, option_map};
 ghost use Rattle.class_code.specs.Listing.{IsRising};
 ghost use Rattle.type_frames.specs.Environments.{made_at};
-ghost use Rattle.type_rules.specs.Methods.{env_of};
+ghost use Rattle.type_rules.specs.Methods.{env_of, instr_found};
 
 use class_code::{Instr, PoolOp};
 use class_tree::ClassFile;
