@@ -123,7 +123,7 @@ over_at false name e = let none : dimensions name ≡ 0 = no_dimensions name e i
 pub dimensions_over : (name : Name) → dimensions (array_of name) ≡ dimensions name + 1
 dimensions_over name = over_at (is_array name) name refl
 
-front_ended : (name : Name) (unit : ℕ) → front (name ++ unit ∷ []) ≡ name
+pub front_ended : (name : Name) (unit : ℕ) → front (name ++ unit ∷ []) ≡ name
 front_ended [] unit = refl
 front_ended (x ∷ []) unit = refl
 front_ended (x ∷ y ∷ name) unit = ap (λ (units : Name). x ∷ units) (front_ended (y ∷ name) unit)

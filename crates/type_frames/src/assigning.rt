@@ -1,5 +1,5 @@
 ghost use Rattle.std.specs.Prelude.{◌≡◌, ◌≤◌, ◌↔◌, IsTrue, option_copied, bytes_eq, length};
-ghost use Rattle.type_frames.specs.Types.{dimensions, base_of_text, base_of, front as front_of};
+ghost use Rattle.type_frames.specs.Types.{dimensions as count_of_dimensions, base_of_text, base_of, front as front_of};
 ghost use Rattle.type_frames.specs.Hierarchies.{superclass, is_interface, is_subclass};
 ghost use Rattle.type_frames.specs.Assignable.{is_for_all, is_for_arrays, base_may_be, array_may_be, class_may_be, is_assignable, IsAssignable};
 ghost use Rattle.type_frames.specs.Bases.{base_held};
@@ -77,10 +77,10 @@ fn is_below(hierarchy: &Hierarchy, name: &[u16], of: &[u16]) -> bool
     of == class
 }
 
-/// How many `[` the text begins with.
+/// How many dimensions the class of this name has: how many `[` the text begins with.
 #[tactic(auto, using(crate::proofs::Bases::dimensions_more, crate::proofs::Bases::dimensions_end, crate::proofs::Bases::dimensions_all))]
-fn leading(text: &[u16]) -> usize
-    ensures value { result ≡ dimensions text.now }
+pub fn dimensions(text: &[u16]) -> usize
+    ensures value { result ≡ count_of_dimensions text.now }
     ensures within { result ≤ length text.now }
 {
     for (i, unit) in text.iter().enumerate() {
@@ -94,11 +94,11 @@ fn leading(text: &[u16]) -> usize
 /// How many dimensions a class has.
 #[tactic(auto, using(crate::proofs::Bases::dimensions_over))]
 fn dimensions_of(name: ClassName<'_>) -> usize
-    ensures { result ≡ dimensions (name_seen name.entry) }
+    ensures { result ≡ count_of_dimensions (name_seen name.entry) }
 {
     match name {
-        ClassName::Named(text) => leading(text),
-        ClassName::ArrayOf(text) => leading(text) + 1,
+        ClassName::Named(text) => dimensions(text),
+        ClassName::ArrayOf(text) => dimensions(text) + 1,
     }
 }
 
@@ -128,7 +128,7 @@ fn plain_base(text: &[u16]) -> BaseText<'_>
 fn base_text(text: &[u16]) -> BaseText<'_>
     ensures { base_held result ≡ base_of text.now }
 {
-    let count = leading(text);
+    let count = dimensions(text);
     if count == 0 {
         return BaseText::Class(text);
     }

@@ -20,7 +20,7 @@ mod tests;
 mod vtype;
 mod words;
 
-pub use assigning::{assignable, stands_for};
+pub use assigning::{assignable, dimensions, stands_for};
 pub use fault::MapFault;
 pub use finals::{has_final_above, is_final};
 pub use frame::{MapFrame, Typed, TypedCode};

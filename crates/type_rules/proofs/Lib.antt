@@ -1,1 +1,4 @@
 pub mod Tops
+pub mod Lookups
+pub mod Names
+pub mod Lengths

@@ -1,7 +1,6 @@
 //! Instructions on arrays. Null is an array of every sort.
-ghost use Rattle.std.specs.Prelude.{◌≡◌, nat_le, replicate, option_map};
+ghost use Rattle.std.specs.Prelude.{◌≡◌, replicate, option_map};
 ghost use Rattle.type_frames.specs.declared.vtype.VType.TheVariants.{Integer, Object};
-ghost use Rattle.type_frames.specs.Types.{dimensions};
 ghost use Rattle.type_frames.specs.States.{top_if, all_taken};
 ghost use Rattle.type_frames.specs.Seen.{type_seen};
 ghost use Rattle.type_frames.specs.RulesOfArrays.{is_small as small, holds as holds_elements, component as component_type, loaded as loaded_type, stored_type as type_stored, is_any_array as any_array, primitive_array as array_of_numbers, array_load_rule, array_store_rule, array_length_rule, new_array_rule, new_reference_array_rule, multi_array_rule};
@@ -9,10 +8,10 @@ ghost use Rattle.type_rules.specs.Methods.{env_of};
 ghost use Rattle.type_states.specs.Answers.{Leaves, Gives};
 
 use crate::Method;
-use crate::names::{OBJECT, component_of, is_array, is_array_of, object};
+use crate::names::{OBJECT, component_of, is_array, is_small_array, object};
 use crate::numbers::moved;
 use class_code::{Element, Primitive};
-use type_frames::{ClassName, Hierarchy, VTypeRef, stands_for};
+use type_frames::{ClassName, Hierarchy, VTypeRef, dimensions, stands_for};
 use type_states::{State, Stop};
 
 /// The array class whose components are the numbers of this unit.
@@ -40,7 +39,7 @@ fn is_small(t: VTypeRef<'_>) -> bool
 {
     match t {
         VTypeRef::Null => true,
-        VTypeRef::Object(name) => is_array_of(name, BYTES[1]) || is_array_of(name, BOOLEANS[1]),
+        VTypeRef::Object(name) => is_small_array(name),
         _ => false,
     }
 }
@@ -49,15 +48,18 @@ fn is_small(t: VTypeRef<'_>) -> bool
 fn holds(hierarchy: &Hierarchy, element: Element, t: VTypeRef<'_>) -> bool
     ensures { result ≡ holds_elements hierarchy.now element (type_seen t.entry) }
 {
-    let wanted = match element {
-        Element::Byte => return is_small(t),
-        Element::Int => array_type(&INTS),
-        Element::Long => array_type(&LONGS),
-        Element::Char => array_type(&CHARS),
-        Element::Short => array_type(&SHORTS),
-        Element::Reference => VTypeRef::Object(ClassName::ArrayOf(&OBJECT)),
-    };
-    stands_for(hierarchy, t, wanted)
+    match element {
+        Element::Byte => is_small(t),
+        Element::Int => stands_for(hierarchy, t, array_type(&INTS)),
+        Element::Long => stands_for(hierarchy, t, array_type(&LONGS)),
+        Element::Char => stands_for(hierarchy, t, array_type(&CHARS)),
+        Element::Short => stands_for(hierarchy, t, array_type(&SHORTS)),
+        Element::Reference => stands_for(
+            hierarchy,
+            t,
+            VTypeRef::Object(ClassName::ArrayOf(&OBJECT)),
+        ),
+    }
 }
 
 /// The component of an array of references, which of null is null.
@@ -199,15 +201,8 @@ pub(crate) fn new_references<'a>(
     moved(method, &[VTypeRef::Integer], &[array], state)
 }
 
-/// How many `[` the text begins with, where they are no more than this.
-fn has_dimensions(text: &[u16], count: u8) -> bool
-    ensures { result ≡ nat_le count (dimensions text.now) }
-{
-    let count = usize::from(count);
-    text.len() >= count && text[..count].iter().all(|unit| *unit == 91)
-}
-
 /// Takes so many lengths.
+#[tactic(auto, using(crate::proofs::Lengths::lengths_more, crate::proofs::Lengths::lengths_not, crate::proofs::Lengths::lengths_over))]
 fn take_lengths(hierarchy: &Hierarchy, lengths: u8, state: &mut State<'_>) -> Result<(), Stop>
     ensures { Leaves result state.new (all_taken hierarchy.now (replicate lengths Integer) state.old) }
 {
@@ -229,7 +224,7 @@ pub(crate) fn new_multi<'a>(
     let Some(class) = method.tree.class_at(index) else {
         return Err(Stop::Refused);
     };
-    if lengths == 0 || !has_dimensions(class.as_slice(), lengths) {
+    if lengths == 0 || usize::from(lengths) > dimensions(class.as_slice()) {
         return Err(Stop::Refused);
     }
     take_lengths(method.hierarchy, lengths, state)?;

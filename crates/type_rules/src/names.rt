@@ -1,6 +1,6 @@
 //! Classes by their names, as types hold them.
-ghost use Rattle.std.specs.Prelude.{◌≡◌, ◌∷◌, [], bytes_eq, option_map};
-ghost use Rattle.type_frames.specs.Types.{is_array as names_array, component_class};
+ghost use Rattle.std.specs.Prelude.{◌≡◌, ◌||◌, codes, bytes_eq, option_map};
+ghost use Rattle.type_frames.specs.Types.{is_array as names_array, component_class, front as front_of};
 ghost use Rattle.type_frames.specs.declared.vtype.VType.TheVariants.{Object};
 ghost use Rattle.type_frames.specs.Assignable.{object_name};
 ghost use Rattle.type_frames.specs.Seen.{name_seen, type_seen};
@@ -30,14 +30,26 @@ pub(crate) fn is_array(name: ClassName<'_>) -> bool
     }
 }
 
-/// Whether the class has this name of two units, the first of which is `[`.
-pub(crate) fn is_array_of(name: ClassName<'_>, unit: u16) -> bool
-    ensures { result ≡ bytes_eq (name_seen name.entry) (91 ∷ unit ∷ []) }
+/// Whether the class is that of arrays of bytes or of booleans.
+#[tactic(auto, using(crate::proofs::Names::never_small))]
+pub(crate) fn is_small_array(name: ClassName<'_>) -> bool
+    ensures { result ≡ (bytes_eq (name_seen name.entry) (codes "[B") || bytes_eq (name_seen name.entry) (codes "[Z")) }
 {
     match name {
-        ClassName::Named(text) => text == [91, unit],
+        ClassName::Named(text) => text == [91, 66].as_slice() || text == [91, 90].as_slice(),
         ClassName::ArrayOf(_) => false,
     }
+}
+
+/// Without the last unit.
+#[tactic(auto, using(type_frames::proofs::Bases::front_take))]
+fn front(units: &[u16]) -> &[u16]
+    ensures { result.now ≡ front_of units.now }
+{
+    if units.is_empty() {
+        return units;
+    }
+    &units[..units.len() - 1]
 }
 
 /// The class that the descriptor of an array's components names, from behind its first `[`.
@@ -46,13 +58,13 @@ fn component_text<'a>(rest: &'a [u16]) -> Option<ClassName<'a>>
 {
     match rest {
         [91, ..] => Some(ClassName::Named(rest)),
-        [76, name @ .., _] => Some(ClassName::Named(name)),
-        [76] => Some(ClassName::Named(&[])),
+        [76, name @ ..] => Some(ClassName::Named(front(name))),
         _ => None,
     }
 }
 
 /// The class of an array's components, where they are no numbers.
+#[tactic(auto, using(crate::proofs::Names::component_over))]
 pub(crate) fn component_of<'a>(name: ClassName<'a>) -> Option<ClassName<'a>>
     ensures { option_map name_seen result ≡ component_class (name_seen name.entry) }
 {

@@ -11,10 +11,6 @@ use class_code::{Arithmetic, Branch, Conversion, Width};
 use type_frames::VTypeRef;
 use type_states::{State, Stop};
 
-const INT: VTypeRef<'static> = VTypeRef::Integer;
-
-const LONG: VTypeRef<'static> = VTypeRef::Long;
-
 /// Takes these, the first one from the top, and puts these, the first one first.
 pub(crate) fn moved<'a>(
     method: &Method<'a>,
@@ -28,12 +24,12 @@ pub(crate) fn moved<'a>(
     state.put_all(method.max_stack, puts)
 }
 
-fn width_type(width: Width) -> VTypeRef<'static>
+fn width_type<'a>(width: Width) -> VTypeRef<'a>
     ensures { type_seen result ≡ type_of_width width }
 {
     match width {
-        Width::Int => INT,
-        Width::Long => LONG,
+        Width::Int => VTypeRef::Integer,
+        Width::Long => VTypeRef::Long,
     }
 }
 
@@ -49,7 +45,7 @@ pub(crate) fn arithmetic<'a>(
     match op {
         Arithmetic::Neg => moved(method, &[t], &[t], state),
         Arithmetic::Shl | Arithmetic::Shr | Arithmetic::Ushr => {
-            moved(method, &[INT, t], &[t], state)
+            moved(method, &[VTypeRef::Integer, t], &[t], state)
         }
         _ => moved(method, &[t, t], &[t], state),
     }
@@ -63,16 +59,16 @@ pub(crate) fn conversion<'a>(
     ensures { Leaves result state.new (conversion_rule (env_of method.now) conversion state.old) }
 {
     match conversion {
-        Conversion::LongToInt => moved(method, &[LONG], &[INT], state),
-        Conversion::IntToLong => moved(method, &[INT], &[LONG], state),
-        _ => moved(method, &[INT], &[INT], state),
+        Conversion::LongToInt => moved(method, &[VTypeRef::Long], &[VTypeRef::Integer], state),
+        Conversion::IntToLong => moved(method, &[VTypeRef::Integer], &[VTypeRef::Long], state),
+        _ => moved(method, &[VTypeRef::Integer], &[VTypeRef::Integer], state),
     }
 }
 
 pub(crate) fn comparison<'a>(method: &Method<'a>, state: &mut State<'a>) -> Result<(), Stop>
     ensures { Leaves result state.new (comparison_rule (env_of method.now) state.old) }
 {
-    moved(method, &[LONG, LONG], &[INT], state)
+    moved(method, &[VTypeRef::Long, VTypeRef::Long], &[VTypeRef::Integer], state)
 }
 
 pub(crate) fn branch<'a>(
@@ -83,8 +79,8 @@ pub(crate) fn branch<'a>(
     ensures { Leaves result state.new (branch_rule (env_of method.now) branch state.old) }
 {
     match branch {
-        Branch::If(_) => moved(method, &[INT], &[], state),
-        Branch::IfIntCompare(_) => moved(method, &[INT, INT], &[], state),
+        Branch::If(_) => moved(method, &[VTypeRef::Integer], &[], state),
+        Branch::IfIntCompare(_) => moved(method, &[VTypeRef::Integer, VTypeRef::Integer], &[], state),
         Branch::IfSameReference | Branch::IfOtherReference => {
             state.take_reference()?;
             state.take_reference()
@@ -98,5 +94,5 @@ pub(crate) fn branch<'a>(
 pub(crate) fn switch<'a>(method: &Method<'a>, state: &mut State<'a>) -> Result<(), Stop>
     ensures { Leaves result state.new (rule_moved (env_of method.now) (Integer ∷ []) [] state.old) }
 {
-    moved(method, &[INT], &[], state)
+    moved(method, &[VTypeRef::Integer], &[], state)
 }

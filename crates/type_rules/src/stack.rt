@@ -1,6 +1,7 @@
 //! What moves or copies operands whatever they are. Each takes one word or a whole long.
 ghost use Rattle.std.specs.Prelude.{◌≡◌};
 ghost use Rattle.type_frames.specs.RulesOfStack.{pop2_rule, dup_rule, dup_x1_rule, dup_x2_rule, dup2_rule, dup2_x1_rule, dup2_over_two, dup2_over_ones, dup2_x2_rule, swap_rule, stack_rule};
+ghost use Rattle.type_rules.specs.Methods.{long_over_any, words_over_any};
 ghost use Rattle.type_states.specs.Answers.{Leaves};
 
 use class_code::StackOp;
@@ -78,7 +79,8 @@ fn dup2_x1(room: u16, state: &mut State<'_>) -> Result<(), Stop>
 }
 
 /// `dup2_x2` of a long.
-fn dup2_x2_of_long<'a>(room: u16, state: &mut State<'a>) -> Result<(), Stop>
+#[tactic(auto, using(crate::proofs::Tops::or_by_top))]
+fn dup2_x2_of_long(room: u16, state: &mut State<'_>) -> Result<(), Stop>
     ensures { Leaves result state.new (long_over_any room state.old) }
 {
     let a = state.take_long()?;
@@ -92,6 +94,7 @@ fn dup2_x2_of_long<'a>(room: u16, state: &mut State<'a>) -> Result<(), Stop>
 }
 
 /// `dup2_x2` of two words.
+#[tactic(auto, using(crate::proofs::Tops::or_by_top))]
 fn dup2_x2_of_words(room: u16, state: &mut State<'_>) -> Result<(), Stop>
     ensures { Leaves result state.new (words_over_any room state.old) }
 {
@@ -106,6 +109,7 @@ fn dup2_x2_of_words(room: u16, state: &mut State<'_>) -> Result<(), Stop>
     state.put_all(room, &[b, a, d, c, b, a])
 }
 
+#[tactic(auto, using(crate::proofs::Tops::dup2_x2_by_top))]
 fn dup2_x2(room: u16, state: &mut State<'_>) -> Result<(), Stop>
     ensures { Leaves result state.new (dup2_x2_rule room state.old) }
 {
