@@ -1,4 +1,4 @@
 pub mod Tops
 pub mod Lookups
-pub mod Names
+pub mod ArrayNames
 pub mod Lengths

@@ -3,7 +3,7 @@ ghost use Rattle.std.specs.Prelude.{◌≡◌, replicate, option_map};
 ghost use Rattle.type_frames.specs.declared.vtype.VType.TheVariants.{Integer, Object};
 ghost use Rattle.type_frames.specs.States.{top_if, all_taken};
 ghost use Rattle.type_frames.specs.Seen.{type_seen};
-ghost use Rattle.type_frames.specs.RulesOfArrays.{is_small as small, holds as holds_elements, component as component_type, loaded as loaded_type, stored_type as type_stored, is_any_array as any_array, primitive_array as array_of_numbers, array_load_rule, array_store_rule, array_length_rule, new_array_rule, new_reference_array_rule, multi_array_rule};
+ghost use Rattle.type_frames.specs.RulesOfArrays.{objects as array_of_objects, is_small as small, holds as holds_elements, component as component_type, loaded as loaded_type, stored_type as type_stored, is_any_array as any_array, primitive_array as array_of_numbers, array_load_rule, array_store_rule, array_length_rule, new_array_rule, new_reference_array_rule, multi_array_rule};
 ghost use Rattle.type_rules.specs.Methods.{env_of};
 ghost use Rattle.type_states.specs.Answers.{Leaves, Gives};
 
@@ -33,6 +33,13 @@ fn array_type(text: &[u16]) -> VTypeRef<'_>
     VTypeRef::Object(ClassName::Named(text))
 }
 
+/// An array of objects of any class.
+fn objects<'a>() -> VTypeRef<'a>
+    ensures { type_seen result ≡ array_of_objects }
+{
+    VTypeRef::Object(ClassName::ArrayOf(&OBJECT))
+}
+
 /// An array of bytes or of booleans.
 fn is_small(t: VTypeRef<'_>) -> bool
     ensures { result ≡ small (type_seen t.entry) }
@@ -54,11 +61,7 @@ fn holds(hierarchy: &Hierarchy, element: Element, t: VTypeRef<'_>) -> bool
         Element::Long => stands_for(hierarchy, t, array_type(&LONGS)),
         Element::Char => stands_for(hierarchy, t, array_type(&CHARS)),
         Element::Short => stands_for(hierarchy, t, array_type(&SHORTS)),
-        Element::Reference => stands_for(
-            hierarchy,
-            t,
-            VTypeRef::Object(ClassName::ArrayOf(&OBJECT)),
-        ),
+        Element::Reference => stands_for(hierarchy, t, objects()),
     }
 }
 

@@ -31,7 +31,7 @@ pub(crate) fn is_array(name: ClassName<'_>) -> bool
 }
 
 /// Whether the class is that of arrays of bytes or of booleans.
-#[tactic(auto, using(crate::proofs::Names::never_small))]
+#[tactic(auto, using(crate::proofs::ArrayNames::never_small))]
 pub(crate) fn is_small_array(name: ClassName<'_>) -> bool
     ensures { result ≡ (bytes_eq (name_seen name.entry) (codes "[B") || bytes_eq (name_seen name.entry) (codes "[Z")) }
 {
@@ -64,7 +64,7 @@ fn component_text<'a>(rest: &'a [u16]) -> Option<ClassName<'a>>
 }
 
 /// The class of an array's components, where they are no numbers.
-#[tactic(auto, using(crate::proofs::Names::component_over))]
+#[tactic(auto, using(crate::proofs::ArrayNames::component_over))]
 pub(crate) fn component_of<'a>(name: ClassName<'a>) -> Option<ClassName<'a>>
     ensures { option_map name_seen result ≡ component_class (name_seen name.entry) }
 {

@@ -33,6 +33,34 @@ fn width_type<'a>(width: Width) -> VTypeRef<'a>
     }
 }
 
+/// Takes one value, and puts another.
+fn one_for_one<'a>(
+    method: &Method<'a>,
+    from: VTypeRef<'_>,
+    to: VTypeRef<'a>,
+    state: &mut State<'a>,
+) -> Result<(), Stop>
+    ensures { Leaves result state.new (rule_moved (env_of method.now) (type_seen from.entry ∷ []) (type_seen to.entry ∷ []) state.old) }
+{
+    state.take(method.hierarchy, from)?;
+    state.put(method.max_stack, to)
+}
+
+/// Takes two values, the upper one first, and puts one.
+fn one_for_two<'a>(
+    method: &Method<'a>,
+    upper: VTypeRef<'_>,
+    lower: VTypeRef<'_>,
+    to: VTypeRef<'a>,
+    state: &mut State<'a>,
+) -> Result<(), Stop>
+    ensures { Leaves result state.new (rule_moved (env_of method.now) (type_seen upper.entry ∷ type_seen lower.entry ∷ []) (type_seen to.entry ∷ []) state.old) }
+{
+    state.take(method.hierarchy, upper)?;
+    state.take(method.hierarchy, lower)?;
+    state.put(method.max_stack, to)
+}
+
 pub(crate) fn arithmetic<'a>(
     method: &Method<'a>,
     op: Arithmetic,
@@ -43,11 +71,11 @@ pub(crate) fn arithmetic<'a>(
 {
     let t = width_type(width);
     match op {
-        Arithmetic::Neg => moved(method, &[t], &[t], state),
+        Arithmetic::Neg => one_for_one(method, t, t, state),
         Arithmetic::Shl | Arithmetic::Shr | Arithmetic::Ushr => {
-            moved(method, &[VTypeRef::Integer, t], &[t], state)
+            one_for_two(method, VTypeRef::Integer, t, t, state)
         }
-        _ => moved(method, &[t, t], &[t], state),
+        _ => one_for_two(method, t, t, t, state),
     }
 }
 
@@ -58,17 +86,19 @@ pub(crate) fn conversion<'a>(
 ) -> Result<(), Stop>
     ensures { Leaves result state.new (conversion_rule (env_of method.now) conversion state.old) }
 {
-    match conversion {
-        Conversion::LongToInt => moved(method, &[VTypeRef::Long], &[VTypeRef::Integer], state),
-        Conversion::IntToLong => moved(method, &[VTypeRef::Integer], &[VTypeRef::Long], state),
-        _ => moved(method, &[VTypeRef::Integer], &[VTypeRef::Integer], state),
-    }
+    let (from, to) = match conversion {
+        Conversion::LongToInt => (Width::Long, Width::Int),
+        Conversion::IntToLong => (Width::Int, Width::Long),
+        _ => (Width::Int, Width::Int),
+    };
+    one_for_one(method, width_type(from), width_type(to), state)
 }
 
 pub(crate) fn comparison<'a>(method: &Method<'a>, state: &mut State<'a>) -> Result<(), Stop>
     ensures { Leaves result state.new (comparison_rule (env_of method.now) state.old) }
 {
-    moved(method, &[VTypeRef::Long, VTypeRef::Long], &[VTypeRef::Integer], state)
+    let (long, int) = (VTypeRef::Long, VTypeRef::Integer);
+    one_for_two(method, long, long, int, state)
 }
 
 pub(crate) fn branch<'a>(
@@ -80,7 +110,12 @@ pub(crate) fn branch<'a>(
 {
     match branch {
         Branch::If(_) => moved(method, &[VTypeRef::Integer], &[], state),
-        Branch::IfIntCompare(_) => moved(method, &[VTypeRef::Integer, VTypeRef::Integer], &[], state),
+        Branch::IfIntCompare(_) => moved(
+            method,
+            &[VTypeRef::Integer, VTypeRef::Integer],
+            &[],
+            state,
+        ),
         Branch::IfSameReference | Branch::IfOtherReference => {
             state.take_reference()?;
             state.take_reference()

@@ -29,11 +29,7 @@ pub(crate) fn new_object<'a>(
     state.put(method.max_stack, VTypeRef::Uninit(at))
 }
 
-pub(crate) fn cast<'a>(
-    method: &Method<'a>,
-    index: u16,
-    state: &mut State<'a>,
-) -> Result<(), Stop>
+pub(crate) fn cast<'a>(method: &Method<'a>, index: u16, state: &mut State<'a>) -> Result<(), Stop>
     ensures { Leaves result state.new (cast_rule (env_of method.now) index state.old) }
 {
     let Some(class) = method.tree.class_at(index) else {

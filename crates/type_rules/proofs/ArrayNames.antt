@@ -22,6 +22,7 @@ second (a ∷ []) = 0
 second (a ∷ b ∷ rest) = b
 
 second_at : (array : Bool) (class : Name) → is_array class ≡ array → second (cond array (91 ∷ class) (91 ∷ 76 ∷ class ++ 59 ∷ [])) ≡ cond array 91 76
+unfolding second
 second_at true [] e = absurd cc
 second_at true (unit ∷ units) e = eqb-true unit 91 e
 second_at false class e = refl
@@ -31,6 +32,7 @@ apart_at true unit e first other = first (sym e)
 apart_at false unit e first other = other (sym e)
 
 pub no_numbers : (class : Name) (unit : ℕ) → (unit ≡ 91 → ⊥) → (unit ≡ 76 → ⊥) → bytes_eq (array_of class) (91 ∷ unit ∷ []) ≡ false
+unfolding second
 no_numbers class unit first other = by (bytes_eq (array_of class) (91 ∷ unit ∷ [])) refl
   where
     by : (same : Bool) → bytes_eq (array_of class) (91 ∷ unit ∷ []) ≡ same → same ≡ false
@@ -38,4 +40,4 @@ no_numbers class unit first other = by (bytes_eq (array_of class) (91 ∷ unit �
     by false e = refl
 
 pub never_small : (class : Name) → (bytes_eq (array_of class) (codes "[B") || bytes_eq (array_of class) (codes "[Z")) ≡ false
-never_small class = rw (no_numbers class 66 (λ e. cc) (λ e. cc), no_numbers class 90 (λ e. cc) (λ e. cc)) refl
+never_small class = rw (no_numbers class 66 (λ e. absurd (omega (arith, e))) (λ e. absurd (omega (arith, e))), no_numbers class 90 (λ e. absurd (omega (arith, e))) (λ e. absurd (omega (arith, e)))) refl
