@@ -21,10 +21,10 @@ use Rattle.jv_names.proofs.DescriptorFlaws.{read_method-text, read_method-front}
 use Rattle.type_frames.specs.declared.seen.VTypeRef.{VTypeRef}
 use Rattle.type_frames.specs.declared.vtype.VType.{VType}
 use Rattle.type_frames.specs.Types.{field_vtype}
-use Rattle.type_frames.specs.Environments.{parameter_types, result_type, method_type}
+use Rattle.type_frames.specs.Environments.{MethodVType, parameter_types, result_type, method_type, method_vtypes}
 use Rattle.type_frames.specs.Seen.{type_seen}
 use Rattle.descriptor_types.specs.Texts.{type_end, cut}
-use Rattle.descriptor_types.specs.Methods.{method_vtypes, some_types, AreParametersAt}
+use Rattle.descriptor_types.specs.Methods.{some_types, AreParametersAt}
 use Rattle.descriptor_types.proofs.FieldTexts.{floating_none}
 use Rattle.descriptor_types.proofs.TypeEnds.{type_end-text}
 
@@ -160,7 +160,7 @@ method_type-none text Floating (m, is, floating) =
     ∙ floating_method m (list_any is_floating_type m.parameters) refl floating
 
 -- a text without one has the type that is seen
-pub method_seen_is : (text : Name) (seen : Option (List VType × Option VType)) → (d : Desc) × IsMethodDesc text d
+pub method_seen_is : (text : Name) (seen : Option MethodVType) → (d : Desc) × IsMethodDesc text d
     → ((m : MethodType) → IsMethodText text (any_method m) → seen ≡ Some (method_vtypes m)) → seen ≡ option_map method_vtypes (method_type text)
 method_seen_is text seen (Field t, is) all = absurd is
 method_seen_is text seen (Method m, is) all = all m is ∙ sym (ap (option_map method_vtypes) (method_type-text text m is))

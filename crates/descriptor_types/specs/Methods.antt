@@ -6,17 +6,13 @@ use Rattle.jv_names.specs.declared.descriptor.FieldType.{FieldType}
 use Rattle.jv_names.specs.declared.descriptor.MethodType.{MethodType}
 use Rattle.jv_names.specs.Descriptors.{any_type, type_text, IsNamedType}
 use Rattle.type_frames.specs.declared.vtype.VType.{VType}
-use Rattle.type_frames.specs.Types.{field_vtype}
+use Rattle.type_frames.specs.Environments.{MethodVType}
 use Rattle.type_frames.specs.Seen.{type_seen}
 use Rattle.descriptor_types.specs.declared.method.MethodRefs.{MethodRefs}
 
--- the types of a method's parameters, and that of its result, where there is one
-abbrev pub method_vtypes : MethodType → List VType × Option VType
-method_vtypes m = (map field_vtype m.parameters, option_map field_vtype m.result)
-
--- the same of what the code holds
-abbrev pub method_seen : MethodRefs → List VType × Option VType
-method_seen refs = (map type_seen refs.parameters.items, option_map type_seen refs.result)
+-- the types of a method, as the code holds them
+abbrev pub method_seen : MethodRefs → MethodVType
+method_seen refs = record { parameters = map type_seen refs.parameters.items; result = option_map type_seen refs.result }
 
 -- types, and what follows their texts
 abbrev pub some_types : List VType → Name → Option (List VType × Name)

@@ -33,7 +33,7 @@ fn this_ref<'a>(tree: &'a ClassFile, member: &Member) -> VTypeRef<'a>
 }
 
 /// The type of `this`, where the method has it. A static `<init>` can't begin.
-fn this_refs<'a>(
+pub fn this_refs<'a>(
     alloc: Global,
     tree: &'a ClassFile,
     member: &Member,
@@ -52,7 +52,7 @@ fn this_refs<'a>(
 }
 
 /// The types of the parameters that a method's descriptor lists.
-fn parameter_refs<'a>(
+pub fn parameter_refs<'a>(
     alloc: Global,
     tree: &'a ClassFile,
     member: &Member,

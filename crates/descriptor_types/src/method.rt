@@ -7,10 +7,10 @@ ghost use Rattle.jv_names.specs.Descriptors.{any_type, any_method, IsMethodText}
 ghost use Rattle.jv_names.specs.DescriptorReading.{IsResultText};
 ghost use Rattle.type_frames.specs.declared.vtype.VType.{VType};
 ghost use Rattle.type_frames.specs.Types.{field_vtype};
-ghost use Rattle.type_frames.specs.Environments.{method_type};
+ghost use Rattle.type_frames.specs.Environments.{method_vtypes, method_vtype};
 ghost use Rattle.type_frames.specs.Seen.{type_seen};
 ghost use Rattle.descriptor_types.specs.Texts.{type_end as end_of_type, cut};
-ghost use Rattle.descriptor_types.specs.Methods.{method_vtypes, method_seen, some_types, AreParametersAt};
+ghost use Rattle.descriptor_types.specs.Methods.{method_seen, some_types, AreParametersAt};
 
 use crate::field_ref;
 use crate::unit::{CLASS, CLASS_END, DIMENSION, PARAMETERS, PARAMETERS_END, VOID};
@@ -122,7 +122,7 @@ fn spelled_refs<'a>(alloc: Global, text: &'a [u16]) -> Result<Option<MethodRefs<
 /// The types of the method whose descriptor the text is, all of it, and `None` where it is no method's, or has a floating-point
 /// type. No name is copied: memory is taken for the list of the parameters alone.
 pub fn method_refs<'a>(alloc: Global, text: &'a Units) -> Result<Option<MethodRefs<'a>>, AllocError>
-    ensures { IfOk result (λ refs. option_map method_seen refs ≡ option_map method_vtypes (method_type text.now)) }
+    ensures { IfOk result (λ refs. option_map method_seen refs ≡ method_vtype text.now) }
 {
     match method_flaw(text) {
         Some(_) => Ok(None),

@@ -51,8 +51,11 @@ pub record MethodVType : Type 0 where
   pub parameters : List VType
   pub result : Option VType
 
+abbrev pub method_vtypes : MethodType → MethodVType
+method_vtypes m = record { parameters = map field_vtype m.parameters; result = option_map field_vtype m.result }
+
 abbrev pub method_vtype : Name → Option MethodVType
-method_vtype text = method_type text >>= λ m. Some (record { parameters = map field_vtype m.parameters; result = option_map field_vtype m.result })
+method_vtype text = option_map method_vtypes (method_type text)
 
 -- ---- fields and methods that the pool names: section 4.4.2
 

@@ -1,6 +1,7 @@
 use Rattle.std.proofs.Common.{ap, sym}
 use Rattle.std.specs.Prelude.{option_map, IfOk, Result, Ok, Err}
-use Rattle.descriptor_types.specs.Methods.{method_vtypes, method_seen}
+use Rattle.descriptor_types.specs.Methods.{method_seen}
+use Rattle.type_frames.specs.Environments.{method_vtypes}
 use Rattle.descriptor_types.proofs.MethodTexts.{method_type-none, method_seen_is}
 use Rattle.descriptor_types.proofs.method.method_refs.Goals as goal
 
