@@ -3,13 +3,17 @@
 #![tactic(auto)]
 
 mod arrays;
+mod calls;
 mod constants;
+mod fields;
 mod locals;
 mod method;
 mod names;
 mod numbers;
 mod objects;
 mod returns;
+mod rules;
 mod stack;
 
 pub use method::Method;
+pub use rules::rule;
