@@ -10,6 +10,8 @@ mod locals;
 mod operands;
 mod state;
 mod stop;
+#[cfg(test)]
+mod tests;
 
 pub use kinds::{is_kind, is_long, is_reference, is_word};
 pub use state::State;
