@@ -5,6 +5,7 @@ use Rattle.std.specs.Option.{option_map_or}
 use Rattle.std.proofs.lemmas.List.{length-map}
 use Rattle.std.proofs.lemmas.List.Folds.{list_all-map}
 use Rattle.std.proofs.lemmas.List.FromFn.{fill_by_all, length-range_with_len, get_or-range_with_len}
+use Rattle.class_tree.specs.declared.body.Handler.{Handler}
 use Rattle.type_frames.specs.TypeChecks.{covers}
 use Rattle.handler_ranges.specs.Coverage.{passes_at, TestsAlike}
 use Rattle.handler_ranges.proofs.Permuted.{list_all-IsPermutation}
@@ -36,3 +37,9 @@ pub range_within : (n : ℕ) → All (λ k. k < n) (range_with_len 0 n)
 range_within n k d h =
     let m : k < n = omega (arith, length-range_with_len 0 n) in
     omega (arith, get_or-range_with_len 0 n k d m)
+
+-- for a caller that reads the handler at a place of a slice
+pub passes_at-get_or : (handlers : List Handler) (test : Handler → Bool) (place : ℕ) (d : Handler) → place < length handlers → passes_at handlers test place ≡ test (get_or handlers place d)
+passes_at-get_or [] test place d h = absurd (omega arith)
+passes_at-get_or (x ∷ xs) test zero d h = refl
+passes_at-get_or (x ∷ xs) test (suc place) d h = passes_at-get_or xs test place d (omega arith)

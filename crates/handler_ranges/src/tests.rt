@@ -54,7 +54,7 @@ fn finds_covering_handlers(rt: HostRuntime) -> Result<(), Fail> {
     Ok(())
 }
 
-/// The same offsets, one after another.
+/// One offset after another: one again, and one behind several that are left out.
 #[test]
 fn goes_on(rt: HostRuntime) -> Result<(), Fail> {
     let alloc = rt.alloc();
@@ -62,12 +62,16 @@ fn goes_on(rt: HostRuntime) -> Result<(), Fail> {
     let mut ranges = Covering::new(alloc, &handlers)?;
     assert_eq!(rt; ranges.places().len(), 0);
     assert_eq!(rt; ranges.handlers().len(), 3);
-    let wanted: [&[usize]; 5] = [&[1, 2], &[1], &[0, 1], &[0, 1], &[1]];
-    let mut at = 2u16;
-    for want in wanted {
-        ranges.advance(at)?;
-        assert_eq!(rt; covering(&ranges, alloc)?.as_slice(), want, "at {at}");
-        at = at.saturating_add(1);
-    }
+    let first: &[usize] = &[];
+    ranges.advance(2)?;
+    assert_eq!(rt; covering(&ranges, alloc)?.as_slice(), [1, 2].as_slice());
+    ranges.advance(3)?;
+    assert_eq!(rt; covering(&ranges, alloc)?.as_slice(), [1].as_slice());
+    ranges.advance(3)?;
+    assert_eq!(rt; covering(&ranges, alloc)?.as_slice(), [1].as_slice());
+    ranges.advance(5)?;
+    assert_eq!(rt; covering(&ranges, alloc)?.as_slice(), [0, 1].as_slice());
+    ranges.advance(20)?;
+    assert_eq!(rt; covering(&ranges, alloc)?.as_slice(), first);
     Ok(())
 }
