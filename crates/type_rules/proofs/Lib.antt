@@ -2,3 +2,5 @@ pub mod Tops
 pub mod Lookups
 pub mod ArrayNames
 pub mod Lengths
+pub mod Arguments
+pub mod Calling

@@ -1,11 +1,15 @@
 -- How the code holds the fields and methods that the constant pool names (JVM specification 4.4.2).
-use Rattle.std.specs.Prelude.{Bool, ◌&&◌, bytes_eq}
+use Rattle.std.specs.Prelude.{Bool, ◌&&◌, bytes_eq, Option, Some}
+use Rattle.ti_ids.specs.Maybe.{◌>>=◌}
+use Rattle.jv_names.specs.Names.{Name}
 use Rattle.descriptor_types.specs.declared.method.MethodRefs.{MethodRefs}
 use Rattle.descriptor_types.specs.Methods.{method_seen as vtypes_seen}
 use Rattle.type_frames.specs.declared.seen.VTypeRef.{VTypeRef}
 use Rattle.type_frames.specs.declared.vtype.VType.{VType}
 use Rattle.type_frames.specs.Types.{is_uninit_this}
 use Rattle.type_frames.specs.Environments.{Environment, Reference, MethodVType}
+use Rattle.type_frames.specs.States.{State}
+use Rattle.type_frames.specs.RulesOfCalls.{called}
 use Rattle.type_frames.specs.Seen.{type_seen}
 use Rattle.type_rules.specs.declared.fields.MemberRef.{MemberRef}
 
@@ -24,3 +28,7 @@ member_seen r refs = (reference_seen r, vtypes_seen refs)
 
 abbrev pub method_seen : MemberRef × MethodRefs → Reference × MethodVType
 method_seen m = member_seen m.0 m.1
+
+-- a call on an object that is of the current class and of the method's
+unfoldable pub called_of_both : Environment → Name → MethodVType → State → Option State
+called_of_both env class m s = called env env.class m s >>= λ left. called env class m s >>= λ other. Some left

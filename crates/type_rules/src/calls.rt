@@ -1,14 +1,15 @@
 //! Calls.
-ghost use Rattle.std.specs.Prelude.{◌≡◌, map, reverse, min, option_map, option_to_list};
+ghost use Rattle.std.specs.Prelude.{◌≡◌, ◌+◌, map, reverse, length, option_map};
+ghost use Rattle.type_frames.specs.Types.{expanded};
 ghost use Rattle.class_code.specs.Listing.{IsRising};
 ghost use Rattle.type_frames.specs.States.{all_taken, all_put};
 ghost use Rattle.type_frames.specs.declared.vtype.VType.TheVariants.{Object};
 ghost use Rattle.type_frames.specs.Seen.{name_seen, type_seen};
 ghost use Rattle.type_frames.specs.Environments.{method_at as method_named};
-ghost use Rattle.type_frames.specs.RulesOfCalls.{is_init_name as names_init, is_special as names_special, is_parent as names_parent, called as called_by, argument_words, named_method as method_of, plain_method as plain_method_of, invoke_static_rule, invoke_virtual_rule, invoke_interface_rule, invoke_super_rule, initialized as type_initialized, invoke_init_rule, invoke_special_rule};
+ghost use Rattle.type_frames.specs.RulesOfCalls.{is_init_name as names_init, is_special as names_special, is_parent as names_parent, called as called_by, arguments, results, argument_words, named_method as method_of, plain_method as plain_method_of, invoke_static_rule, invoke_virtual_rule, invoke_interface_rule, invoke_super_rule, initialized as type_initialized, invoke_init_rule, invoke_special_rule};
 ghost use Rattle.type_rules.specs.Methods.{env_of};
 ghost use Rattle.descriptor_types.specs.Methods.{method_seen as vtypes_seen};
-ghost use Rattle.type_rules.specs.Named.{reference_seen, member_seen, method_seen};
+ghost use Rattle.type_rules.specs.Named.{reference_seen, member_seen, method_seen, called_of_both};
 ghost use Rattle.type_states.specs.Answers.{Leaves, Names};
 
 use crate::Method;
@@ -17,7 +18,7 @@ use class_tree::{ClassFile, Const};
 use descriptor_types::{MethodRefs, method_refs};
 use jv_names::Units;
 use std::alloc::Global;
-use type_frames::{ClassName, VTypeRef, stands_for};
+use type_frames::{ClassName, Hierarchy, VTypeRef, stands_for};
 use type_states::{State, Stop, is_long};
 
 fn is_init(name: &Units) -> bool
@@ -76,18 +77,31 @@ fn plain_method<'a>(
     Ok((called, refs))
 }
 
-/// Takes the arguments, the last one of which is on top.
+/// Takes these, the last one from the top.
+#[tactic(auto, using(crate::proofs::Arguments::last_more, crate::proofs::Arguments::last_not, crate::proofs::Arguments::none_left, crate::proofs::Arguments::all_left))]
+fn take_from_last(
+    hierarchy: &Hierarchy,
+    parameters: &[VTypeRef<'_>],
+    state: &mut State<'_>,
+) -> Result<(), Stop>
+    ensures { Leaves result state.new (all_taken hierarchy.now (reverse (map type_seen parameters.now)) state.old) }
+{
+    for i in 0..parameters.len() {
+        let last = parameters.len() - i - 1;
+        state.take(hierarchy, parameters[last])?;
+    }
+    Ok(())
+}
+
+/// Takes a method's arguments.
 fn take_arguments(
     method: &Method<'_>,
     refs: &MethodRefs<'_>,
     state: &mut State<'_>,
 ) -> Result<(), Stop>
-    ensures { Leaves result state.new (all_taken method.now.hierarchy.now (reverse (map type_seen refs.now.parameters.items)) state.old) }
+    ensures { Leaves result state.new (all_taken method.now.hierarchy.now (arguments (vtypes_seen refs.now)) state.old) }
 {
-    for t in refs.parameters.as_slice().iter().rev() {
-        state.take(method.hierarchy, *t)?;
-    }
-    Ok(())
+    take_from_last(method.hierarchy, refs.parameters.as_slice(), state)
 }
 
 /// Puts what a call leaves, which is nothing for void.
@@ -96,7 +110,7 @@ fn put_result<'a>(
     refs: &MethodRefs<'a>,
     state: &mut State<'a>,
 ) -> Result<(), Stop>
-    ensures { Leaves result state.new (all_put method.now.max_stack (option_to_list (option_map type_seen refs.now.result)) state.old) }
+    ensures { Leaves result state.new (all_put method.now.max_stack (results (option_map type_seen refs.now.result)) state.old) }
 {
     match refs.result {
         Some(t) => state.put(method.max_stack, t),
@@ -118,6 +132,7 @@ pub(crate) fn invoke_static<'a>(
 }
 
 /// Takes the arguments and an object of the class below them, and puts the result.
+#[tactic(auto, using(crate::proofs::Calling::call_without_arguments, crate::proofs::Calling::call_without_object, crate::proofs::Calling::call_done))]
 fn call<'a>(
     method: &Method<'a>,
     called: MemberRef<'a>,
@@ -143,15 +158,22 @@ pub(crate) fn invoke_virtual<'a>(
     call(method, called, &refs, state)
 }
 
-/// The words of the arguments and of the object, as far as they are at most 255; above it, 256.
-fn words_of_arguments(refs: &MethodRefs<'_>) -> u16
-    ensures { result ≡ min 256 (argument_words (vtypes_seen refs.now)) }
+/// The words of the arguments and of the object.
+#[tactic(auto, using(crate::proofs::Arguments::words_long, crate::proofs::Arguments::words_short, crate::proofs::Arguments::words_all))]
+fn words_with_object(parameters: &[VTypeRef<'_>]) -> usize
+    ensures { result ≡ length (expanded (reverse (map type_seen parameters.now))) + 1 }
 {
     let mut words = 1;
-    for t in refs.parameters.as_slice() {
-        words = (words + if is_long(*t) { 2 } else { 1 }).min(256);
+    for t in parameters {
+        words += if is_long(*t) { 2 } else { 1 };
     }
     words
+}
+
+fn words_of_arguments(refs: &MethodRefs<'_>) -> usize
+    ensures { result ≡ argument_words (vtypes_seen refs.now) }
+{
+    words_with_object(refs.parameters.as_slice())
 }
 
 pub(crate) fn invoke_interface<'a>(
@@ -164,13 +186,36 @@ pub(crate) fn invoke_interface<'a>(
     ensures { Leaves result state.new (invoke_interface_rule (env_of method.now) index count state.old) }
 {
     let (called, refs) = plain_method(alloc, method, index)?;
-    if u16::from(count) != words_of_arguments(&refs) {
+    if usize::from(count) != words_of_arguments(&refs) {
         return Err(Stop::Refused);
     }
     call(method, called, &refs, state)
 }
 
-/// `invokespecial` of another method than an `<init>`, of a class that the current one may stand for: the object is of both.
+/// Takes the arguments and an object below them that is of the current class and of the method's, and puts the result.
+#[tactic(auto, using(crate::proofs::Calling::both_done, crate::proofs::Calling::both_not_first, crate::proofs::Calling::both_not_second, crate::proofs::Calling::both_without_arguments, crate::proofs::Calling::both_without_object))]
+fn call_of_both<'a>(
+    method: &Method<'a>,
+    called: MemberRef<'a>,
+    refs: &MethodRefs<'a>,
+    state: &mut State<'a>,
+) -> Result<(), Stop>
+    ensures { Leaves result state.new (called_of_both (env_of method.now) called.entry.class.now (vtypes_seen refs.now) state.old) }
+{
+    let this = VTypeRef::Object(ClassName::Named(method.class.as_slice()));
+    take_arguments(method, refs, state)?;
+    let object = state.take_any()?;
+    if stands_for(method.hierarchy, object, this)
+        && stands_for(method.hierarchy, object, called.object())
+    {
+        put_result(method, refs, state)
+    } else {
+        Err(Stop::Refused)
+    }
+}
+
+/// `invokespecial` of another method than an `<init>`, of a class that the current one may stand for.
+#[tactic(auto, unfolding(crate::specs::Named::called_of_both))]
 fn invoke_super<'a>(
     method: &Method<'a>,
     called: MemberRef<'a>,
@@ -183,15 +228,7 @@ fn invoke_super<'a>(
     if !stands_for(method.hierarchy, this, called.object()) {
         return Err(Stop::Refused);
     }
-    take_arguments(method, refs, state)?;
-    let object = state.take_any()?;
-    if stands_for(method.hierarchy, object, this)
-        && stands_for(method.hierarchy, object, called.object())
-    {
-        put_result(method, refs, state)
-    } else {
-        Err(Stop::Refused)
-    }
+    call_of_both(method, called, refs, state)
 }
 
 /// Whether it is the superclass of the current class.
