@@ -1,2 +1,6 @@
 pub mod Answers
 pub mod Holding
+pub mod Lists
+pub mod Nodes
+pub mod Maps
+pub mod Given

@@ -5,12 +5,18 @@
 //! variables and its stack alone, and those of a map take together what the map itself takes.
 #![tactic(auto)]
 
+mod accepting;
+mod entry;
 mod kinds;
 mod locals;
+mod maps;
+mod node;
+mod nodes;
 mod operands;
 mod state;
 mod stop;
 
 pub use kinds::{is_kind, is_long, is_reference, is_word};
+pub use maps::StackMap;
 pub use state::State;
 pub use stop::Stop;
