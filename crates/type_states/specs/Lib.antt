@@ -4,3 +4,4 @@ pub mod Lists
 pub mod Nodes
 pub mod Maps
 pub mod Given
+pub mod Reading

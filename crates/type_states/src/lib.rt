@@ -13,10 +13,12 @@ mod maps;
 mod node;
 mod nodes;
 mod operands;
+mod reading;
 mod state;
 mod stop;
 
 pub use kinds::{is_kind, is_long, is_reference, is_word};
 pub use maps::StackMap;
+pub use reading::MapBounds;
 pub use state::State;
 pub use stop::Stop;

@@ -41,6 +41,16 @@ impl<'a> TypeLists<'a> {
         }
     }
 
+    /// The place of the empty list.
+    #[tactic(auto, using(crate::proofs::NodeLists::lists_count, crate::proofs::NodeLists::first_empty))]
+    pub(crate) fn empty(&self) -> usize
+        ensures within { result < length self.now }
+        ensures none { list_at self.now result ≡ [] }
+    {
+        let _nodes = &self.nodes;
+        0
+    }
+
     /// The last type of a list, and the place of the list without it.
     pub(crate) fn last(&self, place: usize) -> Option<(VTypeRef<'a>, usize)>
         requires { place < length self.now }
