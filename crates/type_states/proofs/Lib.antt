@@ -5,3 +5,5 @@ pub mod Begun
 pub mod Mapping
 pub mod Found
 pub mod Putting
+pub mod Steps
+pub mod Loads

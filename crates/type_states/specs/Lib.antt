@@ -5,3 +5,4 @@ pub mod Nodes
 pub mod Maps
 pub mod Given
 pub mod Reading
+pub mod Loading

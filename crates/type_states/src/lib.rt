@@ -8,6 +8,7 @@
 mod accepting;
 mod entry;
 mod kinds;
+mod loading;
 mod locals;
 mod maps;
 mod node;

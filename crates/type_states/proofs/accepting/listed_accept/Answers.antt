@@ -1,5 +1,5 @@
-use Rattle.std.proofs.Common.{◌≡◌, ℕ, refl, List, [], ◌∷◌, ◌++◌, ◌-◌, ◌<◌, ◌≤◌, ◌∙◌, Bool, false, true, sym, ap, length, map, reverse, get_or, nat_eq, rules, arith}
-use Rattle.std.proofs.lemmas.List.{length-map, get_or-map, map-append, reverse-append}
+use Rattle.std.proofs.Common.{◌≡◌, ℕ, refl, List, ◌-◌, ◌<◌, ◌≤◌, ◌∙◌, Bool, false, true, sym, ap, length, map, reverse, get_or, nat_eq, rules, arith}
+use Rattle.std.proofs.lemmas.List.{length-map, get_or-map}
 use Rattle.std.proofs.lemmas.Bool.Decides.{nat_tests}
 use Rattle.class_tree.specs.declared.frames.VerificationType.{VerificationType}
 use Rattle.class_tree.specs.declared.pool.Const.{Const}
@@ -11,14 +11,9 @@ use Rattle.type_frames.specs.Seen.{type_seen}
 use Rattle.type_frames.specs.declared.seen.VTypeRef.{VTypeRef}
 use Rattle.type_frames.specs.declared.vtype.VType.{VType}
 use Rattle.type_frames.specs.declared.vtype.VType.TheVariants as vtype
+use Rattle.type_states.proofs.Words.{map_reverse}
 use Rattle.type_states.proofs.Assigned.{Compared, compare_begun, second_on, second_failed, none_left, first_on, first_failed, over_none, over_some}
 use Rattle.type_states.proofs.accepting.listed_accept.Goals as goal
-
-map_reverse : (types : List VTypeRef) → reverse (map type_seen types) ≡ map type_seen (reverse types)
-map_reverse [] = refl
-map_reverse (t ∷ types) =
-    reverse-append (type_seen t ∷ []) (map type_seen types) ∙ ap (λ (ts : List VType). ts ++ type_seen t ∷ []) (map_reverse types)
-    ∙ sym (map-append type_seen (reverse types) (t ∷ [])) ∙ ap (map type_seen) (sym (reverse-append (t ∷ []) types))
 
 turned : (h : Known) (types : List VTypeRef) (ofs : List VType) → are_words_assignable h (reverse (map type_seen types)) (reverse ofs) ≡ are_words_assignable h (map type_seen (reverse types)) (reverse ofs)
 turned h types ofs = ap (λ (ts : List VType). are_words_assignable h ts (reverse ofs)) (map_reverse types)

@@ -1,6 +1,7 @@
-use Rattle.std.proofs.Common.{◌≡◌, ◌∙◌, ℕ, List, ap, sym, rules}
+use Rattle.std.proofs.Common.{◌≡◌, ◌∙◌, ℕ, List, Option, length, ap, sym, subst, rules}
 use Rattle.std.specs.Prelude.{◌==◌, find, slice_get}
 use Rattle.std.specs.Option.{option_and_then}
+use Rattle.std.specs.Result.{result_ok}
 use Rattle.std.proofs.lemmas.List.Sorted.{answers_always}
 use Rattle.type_frames.specs.declared.frame.MapFrame.{MapFrame}
 use Rattle.type_states.proofs.Found.{held_is}
@@ -10,4 +11,7 @@ pub returns : goal.returns
 returns c =
     let facts = c.binary_search_by_key.ensures in
     let by_key = facts.position (λ e. e.at) (answers_always _ _ _ (λ f a r g called. search rules)) in
-    ?
+    let m = c.self.inside in
+    let held = held_is m.pool.now m.max_locals m.lists m.entries.items c.args.at c.binary_search_by_key.result c.self.invariant.rising facts.bound by_key in
+    let there = ap (λ (o : Option ℕ). option_and_then (λ (place : ℕ). slice_get c.args.self.now place) o) c.ok.ensures.value in
+    there ∙ subst (λ (fs : List MapFrame). option_and_then (λ (place : ℕ). slice_get fs place) (result_ok c.binary_search_by_key.result) ≡ find (λ f. f.at == c.args.at) fs) c.self.view_is held
