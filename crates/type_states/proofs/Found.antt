@@ -4,7 +4,7 @@ use Rattle.std.specs.Prelude.{◌==◌, All, find, slice_get, option_map, if◌t
 use Rattle.std.specs.Option.{option_and_then}
 use Rattle.std.specs.Result.{result_ok}
 use Rattle.std.specs.Ordering.{nat_cmp, ordering_index}
-use Rattle.std.specs.Ordering.Ordering.{Ordering}
+use Rattle.std.specs.declared.cmp.Ordering.TheVariants as ordering
 use Rattle.std.specs.List.Sorted.{IsSearchInRange, IsBinarySearchResult, IsNonDecreasingBy}
 use Rattle.std.proofs.lemmas.Bool.{cases_lt, cases_eq}
 use Rattle.std.proofs.lemmas.Bool.Decides.{nat_tests}
@@ -33,13 +33,13 @@ chosen : (frame : Entry → MapFrame) (b : Bool) (e : Entry) (o : Option Entry) 
 chosen frame true e o = refl
 chosen frame false e o = refl
 
-equal_is : (a b : ℕ) → nat_cmp a b ≡ Ordering.Equal → a ≡ b
+equal_is : (a b : ℕ) → nat_cmp a b ≡ ordering.Equal → a ≡ b
 equal_is a b is = grind (arith, nat_tests)
 
-less_not : (a b : ℕ) → nat_cmp a b ≡ Ordering.Less → (a == b) ≡ false
+less_not : (a b : ℕ) → nat_cmp a b ≡ ordering.Less → (a == b) ≡ false
 less_not a b is = grind (arith, nat_tests)
 
-greater_not : (a b : ℕ) → nat_cmp a b ≡ Ordering.Greater → (a == b) ≡ false
+greater_not : (a b : ℕ) → nat_cmp a b ≡ ordering.Greater → (a == b) ≡ false
 greater_not a b is = grind (arith, nat_tests)
 
 same_yes : (a b : ℕ) → a ≡ b → (a == b) ≡ true
@@ -67,7 +67,7 @@ module _ (entries : List Entry) (rising : Rises (map (λ e. e.at) entries)) wher
   ]
 
   module _ (at : ℕ) where
-    here : (i : ℕ) (d : Entry) → i < length entries → nat_cmp (get_or entries i d).at at ≡ Ordering.Equal → find (λ e. e.at == at) entries ≡ Some (get_or entries i d)
+    here : (i : ℕ) (d : Entry) → i < length entries → nat_cmp (get_or entries i d).at at ≡ ordering.Equal → find (λ e. e.at == at) entries ≡ Some (get_or entries i d)
     here i d lt is =
         let e = equal_is (get_or entries i d).at at is in
         find_here (λ e. e.at == at) entries i d lt (same_yes (get_or entries i d).at at e)

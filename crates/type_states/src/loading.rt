@@ -38,11 +38,16 @@ fn set_words<'a>(locals: &mut [VTypeRef<'a>], at: usize, t: VTypeRef<'a>)
 }
 
 /// Sets local variables to a list of types and `Top` behind them.
-fn set_locals<'a>(locals: &mut [VTypeRef<'a>], lists: &TypeLists<'a>, place: usize)
+fn set_locals<'a>(
+    locals: &mut [VTypeRef<'a>],
+    max_locals: u16,
+    lists: &TypeLists<'a>,
+    place: usize,
+)
+    requires count { length locals.old ≡ max_locals }
     requires listed { place < length lists.now }
-    requires room { length (expanded (list_at lists.now place)) ≤ length locals.old }
-    requires short { length locals.old < 2 ^ 16 }
-    ensures { map type_seen locals.new ≡ filled (length locals.old) (list_at lists.now place) }
+    requires room { length (expanded (list_at lists.now place)) ≤ max_locals }
+    ensures { map type_seen locals.new ≡ filled max_locals (list_at lists.now place) }
 {
     clear(locals);
     let mut at = place;
@@ -59,8 +64,9 @@ fn listed_stack<'a>(
     alloc: Global,
     pool: &'a [Const],
     listed: &[VerificationType],
+    room: u16,
 ) -> Result<(Vec<VTypeRef<'a>>, u32), AllocError>
-    requires { length (expanded (types_listed pool.now listed.now)) < 2 ^ 16 }
+    requires { length (expanded (types_listed pool.now listed.now)) ≤ room }
     ensures { IfOk result (λ s. IsStack (types_listed pool.now listed.now) s.0.items s.1) }
 {
     let mut stack = Vec::new(alloc);
@@ -78,15 +84,16 @@ fn stack_of<'a>(
     alloc: Global,
     pool: &'a [Const],
     frame: &StackMapFrame,
+    room: u16,
 ) -> Result<(Vec<VTypeRef<'a>>, u32), AllocError>
-    requires { length (expanded (stack_after pool.now frame.now)) < 2 ^ 16 }
+    requires { length (expanded (stack_after pool.now frame.now)) ≤ room }
     ensures { IfOk result (λ s. IsStack (stack_after pool.now frame.now) s.0.items s.1) }
 {
     match frame {
-        StackMapFrame::SameLocals1StackItem { stack, .. } => listed_stack(alloc, pool, &[*stack]),
-        StackMapFrame::SameLocals1StackItemExtended { stack, .. } => listed_stack(alloc, pool, &[*stack]),
-        StackMapFrame::Full { stack, .. } => listed_stack(alloc, pool, stack.as_slice()),
-        _ => listed_stack(alloc, pool, &[]),
+        StackMapFrame::SameLocals1StackItem { stack, .. } => listed_stack(alloc, pool, &[*stack], room),
+        StackMapFrame::SameLocals1StackItemExtended { stack, .. } => listed_stack(alloc, pool, &[*stack], room),
+        StackMapFrame::Full { stack, .. } => listed_stack(alloc, pool, stack.as_slice(), room),
+        _ => listed_stack(alloc, pool, &[], room),
     }
 }
 
@@ -99,9 +106,8 @@ impl<'a> StackMap<'a> {
         ensures kept { OnErr result (state.new ≡ state.old) }
     {
         let entry = self.entries[place];
-        let _rooms = (self.max_locals, self.max_stack);
-        let (stack, words) = stack_of(alloc, self.pool, entry.frame)?;
-        set_locals(state.locals.as_mut_slice(), &self.lists, entry.locals);
+        let (stack, words) = stack_of(alloc, self.pool, entry.frame, self.max_stack)?;
+        set_locals(state.locals.as_mut_slice(), self.max_locals, &self.lists, entry.locals);
         state.stack = stack;
         state.words = words;
         state.this_uninit = self.lists.has_uninit_this(entry.locals);

@@ -11,7 +11,7 @@ invariant-loop-t l = record {
   count : l.words ≡ length (expanded (list_at l.lists l.at));
   within : l.words ≤ length l.locals;
   same_length : length l.locals ≡ length l.fn.locals;
-  so_far : expanded (list_at l.lists l.at) ++ drop l.words (map type_seen l.locals) ≡ filled (length l.fn.locals) (list_at l.lists l.place);
+  so_far : expanded (list_at l.lists l.at) ++ drop l.words (map type_seen l.locals) ≡ filled l.max_locals (list_at l.lists l.place);
 }
 
 abbrev pub decreases-loop-t : goal.decreases-loop-t

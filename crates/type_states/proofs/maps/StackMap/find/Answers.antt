@@ -2,8 +2,11 @@ use Rattle.std.proofs.Common.{◌≡◌, ◌∙◌, ℕ, List, Option, length, a
 use Rattle.std.specs.Prelude.{◌==◌, find, slice_get}
 use Rattle.std.specs.Option.{option_and_then}
 use Rattle.std.specs.Result.{result_ok}
+use Rattle.std.specs.Ordering.{nat_cmp}
+use Rattle.std.specs.List.Sorted.{IsSearchInRange, IsBinarySearchResult}
 use Rattle.std.proofs.lemmas.List.Sorted.{answers_always}
 use Rattle.type_frames.specs.declared.frame.MapFrame.{MapFrame}
+use Rattle.type_states.specs.declared.entry.Entry.{Entry}
 use Rattle.type_states.proofs.Found.{held_is}
 use Rattle.type_states.proofs.maps.StackMap.find.Goals as goal
 
@@ -12,6 +15,9 @@ returns c =
     let facts = c.binary_search_by_key.ensures in
     let by_key = facts.position (λ e. e.at) (answers_always _ _ _ (λ f a r g called. search rules)) in
     let m = c.self.inside in
-    let held = held_is m.pool.now m.max_locals m.lists m.entries.items c.args.at c.binary_search_by_key.result c.self.invariant.rising facts.bound by_key in
+    let back = c.deref.ensures.value in
+    let bound = subst (λ (xs : List Entry). IsSearchInRange c.binary_search_by_key.result (length xs)) back facts.bound in
+    let found = subst (λ (xs : List Entry). IsBinarySearchResult (λ e. nat_cmp e.at c.args.at) xs c.binary_search_by_key.result) back by_key in
+    let held = held_is m.pool.now m.max_locals m.lists m.entries.items c.args.at c.binary_search_by_key.result c.self.invariant.rising bound found in
     let there = ap (λ (o : Option ℕ). option_and_then (λ (place : ℕ). slice_get c.args.self.now place) o) c.ok.ensures.value in
     there ∙ subst (λ (fs : List MapFrame). option_and_then (λ (place : ℕ). slice_get fs place) (result_ok c.binary_search_by_key.result) ≡ find (λ f. f.at == c.args.at) fs) c.self.view_is held
