@@ -87,7 +87,7 @@ module _ (locals : List VTypeRef) (at : ℕ) (t : VTypeRef) (le : at + length (t
 pub stack_counts : (types : List VType) (stack : List VTypeRef) (words : ℕ) → IsStack types stack words → counts_words stack words
 stack_counts types stack words is =
     let same : length (expanded (map type_seen (reverse stack))) ≡ length (expanded types) =
-        ap (λ (ts : List VType). length (expanded ts)) (sym (map_reverse stack)) ∙ words_reverse (map type_seen stack) ∙ ap (λ (ts : List VType). length (expanded ts)) is.types_are in
+    ap (λ (ts : List VType). length (expanded ts)) (sym (map_reverse stack)) ∙ words_reverse (map type_seen stack) ∙ ap (λ (ts : List VType). length (expanded ts)) is.types_are in
     (is.words_are ∙ sym same, is.short)
 
 module _ (pool : List Const) (max_locals max_stack : ℕ) (lists : List (List VType)) (entries : List Entry) (frames : List MapFrame) (place : ℕ) (d : Entry) where

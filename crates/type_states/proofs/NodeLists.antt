@@ -75,15 +75,15 @@ nodes_push nodes n are older over k d lt =
     let Here : ℕ → Type 0 = λ (k : ℕ). (d : Node) → IsNode (lists_of (nodes ++ n ∷ [])) (k + 1) (get_or (nodes ++ n ∷ []) k d) in
     below_more Here (length nodes)
     (λ k old d.
-        let same : get_or (nodes ++ n ∷ []) k d ≡ get_or nodes k d = get_or_append_left nodes (n ∷ []) d k old in
-        subst (λ (ls : Lists). IsNode ls (k + 1) (get_or (nodes ++ n ∷ []) k d)) (sym all)
-        (subst (λ (m : Node). IsNode (with_node (lists_of nodes) n) (k + 1) m) (sym same)
-        (still_node (lists_of nodes) n (get_or nodes k d) (k + 1) (omega arith) (are k d old))))
+    let same : get_or (nodes ++ n ∷ []) k d ≡ get_or nodes k d = get_or_append_left nodes (n ∷ []) d k old in
+    subst (λ (ls : Lists). IsNode ls (k + 1) (get_or (nodes ++ n ∷ []) k d)) (sym all)
+    (subst (λ (m : Node). IsNode (with_node (lists_of nodes) n) (k + 1) m) (sym same)
+    (still_node (lists_of nodes) n (get_or nodes k d) (k + 1) (omega arith) (are k d old))))
     (λ d.
-        let same : get_or (nodes ++ n ∷ []) (length nodes) d ≡ n = get_or_push nodes n d (length nodes) refl in
-        subst (λ (ls : Lists). IsNode ls (length nodes + 1) (get_or (nodes ++ n ∷ []) (length nodes) d)) (sym all)
-        (subst (λ (m : Node). IsNode (with_node (lists_of nodes) n) (length nodes + 1) m) (sym same)
-        (subst (λ (j : ℕ). IsNode (with_node (lists_of nodes) n) j n) count (new_node (lists_of nodes) n older over))))
+    let same : get_or (nodes ++ n ∷ []) (length nodes) d ≡ n = get_or_push nodes n d (length nodes) refl in
+    subst (λ (ls : Lists). IsNode ls (length nodes + 1) (get_or (nodes ++ n ∷ []) (length nodes) d)) (sym all)
+    (subst (λ (m : Node). IsNode (with_node (lists_of nodes) n) (length nodes + 1) m) (sym same)
+    (subst (λ (j : ℕ). IsNode (with_node (lists_of nodes) n) j n) count (new_node (lists_of nodes) n older over))))
     k (omega arith) d
 
 -- the lists with the node's are put

@@ -25,15 +25,15 @@ rises_push xs y rising below i j lt within =
     let count = length_push xs y in
     below_more (λ (j : ℕ). i < j → get_or (xs ++ y ∷ []) i 0 < get_or (xs ++ y ∷ []) j 0) (length xs)
     (λ j less lt.
-        let a = get_or_append_left xs (y ∷ []) 0 i (omega arith) in
-        let b = get_or_append_left xs (y ∷ []) 0 j less in
-        let c = rising i j lt less in
-        omega arith)
+    let a = get_or_append_left xs (y ∷ []) 0 i (omega arith) in
+    let b = get_or_append_left xs (y ∷ []) 0 j less in
+    let c = rising i j lt less in
+    omega arith)
     (λ lt.
-        let a = get_or_append_left xs (y ∷ []) 0 i lt in
-        let b = get_or_push xs y 0 (length xs) refl in
-        let c = below i 0 lt in
-        omega arith)
+    let a = get_or_append_left xs (y ∷ []) 0 i lt in
+    let b = get_or_push xs y 0 (length xs) refl in
+    let c = below i 0 lt in
+    omega arith)
     j (omega arith) lt
 
 module _ (pool : List Const) (max_locals max_stack : ℕ) where

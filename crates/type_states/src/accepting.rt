@@ -33,13 +33,20 @@ pub(crate) fn type_ref<'a>(pool: &'a [Const], listed: VerificationType) -> VType
         VerificationType::Long => VTypeRef::Long,
         VerificationType::Null => VTypeRef::Null,
         VerificationType::UninitializedThis => VTypeRef::UninitThis,
-        VerificationType::Object(class) => VTypeRef::Object(ClassName::Named(class_text(pool, class))),
+        VerificationType::Object(class) => VTypeRef::Object(ClassName::Named(class_text(
+            pool, class,
+        ))),
         VerificationType::Uninitialized(at) => VTypeRef::Uninit(at),
     }
 }
 
 /// Whether these types may be taken, word by word, for those of a list and `Top` behind them.
-fn words_accept(hierarchy: &Hierarchy, lists: &TypeLists<'_>, place: usize, types: &[VTypeRef<'_>]) -> bool
+fn words_accept(
+    hierarchy: &Hierarchy,
+    lists: &TypeLists<'_>,
+    place: usize,
+    types: &[VTypeRef<'_>],
+) -> bool
     requires listed { place < length lists.now }
     requires room { length (expanded (list_at lists.now place)) ≤ length types.now }
     requires short { length types.now < 2 ^ 16 }
@@ -128,9 +135,24 @@ pub(crate) fn stack_accepts(
     ensures { result ≡ are_words_assignable hierarchy.now (map type_seen (reverse types.now)) (reverse (stack_after pool.now frame.now)) }
 {
     match frame {
-        StackMapFrame::SameLocals1StackItem { stack, .. } => listed_accept(hierarchy, pool, &[*stack], types),
-        StackMapFrame::SameLocals1StackItemExtended { stack, .. } => listed_accept(hierarchy, pool, &[*stack], types),
-        StackMapFrame::Full { stack, .. } => listed_accept(hierarchy, pool, stack.as_slice(), types),
+        StackMapFrame::SameLocals1StackItem { stack, .. } => listed_accept(
+            hierarchy,
+            pool,
+            &[*stack],
+            types,
+        ),
+        StackMapFrame::SameLocals1StackItemExtended { stack, .. } => listed_accept(
+            hierarchy,
+            pool,
+            &[*stack],
+            types,
+        ),
+        StackMapFrame::Full { stack, .. } => listed_accept(
+            hierarchy,
+            pool,
+            stack.as_slice(),
+            types,
+        ),
         _ => listed_accept(hierarchy, pool, &[], types),
     }
 }

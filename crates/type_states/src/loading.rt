@@ -8,12 +8,12 @@ ghost use Rattle.type_states.specs.Given.{given_at};
 ghost use Rattle.type_frames.specs.declared.vtype.VType.TheVariants as vtype;
 ghost use Rattle.type_states.specs.Loading.{IsStack};
 
+use crate::State;
 use crate::accepting::type_ref;
 use crate::kinds::is_long;
 use crate::maps::StackMap;
 use crate::node::width;
 use crate::nodes::TypeLists;
-use crate::State;
 use class_tree::{Const, StackMapFrame, VerificationType};
 use std::alloc::{AllocError, Global};
 use type_frames::VTypeRef;
@@ -38,12 +38,7 @@ fn set_words<'a>(locals: &mut [VTypeRef<'a>], at: usize, t: VTypeRef<'a>)
 }
 
 /// Sets local variables to a list of types and `Top` behind them.
-fn set_locals<'a>(
-    locals: &mut [VTypeRef<'a>],
-    max_locals: u16,
-    lists: &TypeLists<'a>,
-    place: usize,
-)
+fn set_locals<'a>(locals: &mut [VTypeRef<'a>], max_locals: u16, lists: &TypeLists<'a>, place: usize)
     requires count { length locals.old ≡ max_locals }
     requires listed { place < length lists.now }
     requires room { length (expanded (list_at lists.now place)) ≤ max_locals }
@@ -90,8 +85,18 @@ fn stack_of<'a>(
     ensures { IfOk result (λ s. IsStack (stack_after pool.now frame.now) s.0.items s.1) }
 {
     match frame {
-        StackMapFrame::SameLocals1StackItem { stack, .. } => listed_stack(alloc, pool, &[*stack], room),
-        StackMapFrame::SameLocals1StackItemExtended { stack, .. } => listed_stack(alloc, pool, &[*stack], room),
+        StackMapFrame::SameLocals1StackItem { stack, .. } => listed_stack(
+            alloc,
+            pool,
+            &[*stack],
+            room,
+        ),
+        StackMapFrame::SameLocals1StackItemExtended { stack, .. } => listed_stack(
+            alloc,
+            pool,
+            &[*stack],
+            room,
+        ),
         StackMapFrame::Full { stack, .. } => listed_stack(alloc, pool, stack.as_slice(), room),
         _ => listed_stack(alloc, pool, &[], room),
     }
@@ -107,7 +112,12 @@ impl<'a> StackMap<'a> {
     {
         let entry = self.entries[place];
         let (stack, words) = stack_of(alloc, self.pool, entry.frame, self.max_stack)?;
-        set_locals(state.locals.as_mut_slice(), self.max_locals, &self.lists, entry.locals);
+        set_locals(
+            state.locals.as_mut_slice(),
+            self.max_locals,
+            &self.lists,
+            entry.locals,
+        );
         state.stack = stack;
         state.words = words;
         state.this_uninit = self.lists.has_uninit_this(entry.locals);

@@ -1,13 +1,12 @@
 ghost use Rattle.std.specs.Prelude.{◌≡◌, ◌==◌, false, find, slice_get};
 ghost use Rattle.std.specs.Option.{option_map_or, option_and_then};
-
 ghost use Rattle.type_frames.specs.TypeChecks.{is_state_assignable, thrown};
 ghost use Rattle.type_states.specs.Given.{given_at};
 
+use crate::State;
 use crate::accepting::{locals_accept, stack_accepts};
 use crate::entry::Entry;
 use crate::nodes::TypeLists;
-use crate::State;
 use class_tree::Const;
 use std::marker::Model;
 use type_frames::{ClassName, Hierarchy, VTypeRef};
@@ -54,8 +53,13 @@ impl<'a> StackMap<'a> {
             return false;
         };
         let locals = state.locals.as_slice();
-        locals_accept(hierarchy, &self.lists, entry.locals, self.max_locals, locals)
-            && stack_accepts(hierarchy, self.pool, entry.frame, state.stack.as_slice())
+        locals_accept(
+            hierarchy,
+            &self.lists,
+            entry.locals,
+            self.max_locals,
+            locals,
+        ) && stack_accepts(hierarchy, self.pool, entry.frame, state.stack.as_slice())
             && (!state.this_uninit || self.lists.has_uninit_this(entry.locals))
     }
 
@@ -75,8 +79,13 @@ impl<'a> StackMap<'a> {
         };
         let locals = state.locals.as_slice();
         let stack = [VTypeRef::Object(ClassName::Named(class))];
-        locals_accept(hierarchy, &self.lists, entry.locals, self.max_locals, locals)
-            && stack_accepts(hierarchy, self.pool, entry.frame, &stack)
+        locals_accept(
+            hierarchy,
+            &self.lists,
+            entry.locals,
+            self.max_locals,
+            locals,
+        ) && stack_accepts(hierarchy, self.pool, entry.frame, &stack)
             && (!state.this_uninit || self.lists.has_uninit_this(entry.locals))
     }
 }

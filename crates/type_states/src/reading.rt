@@ -29,7 +29,11 @@ pub struct MapBounds<'a> {
 }
 
 /// Puts types behind those of a list, and answers the place of the list with them.
-fn put_seen<'a>(lists: &mut TypeLists<'a>, place: usize, types: &[VTypeRef<'a>]) -> Result<usize, AllocError>
+fn put_seen<'a>(
+    lists: &mut TypeLists<'a>,
+    place: usize,
+    types: &[VTypeRef<'a>],
+) -> Result<usize, AllocError>
     requires { place < length lists.old }
     ensures { IfOk result (λ at. IsPut lists.old lists.new place (map type_seen types.now) at) }
 {
@@ -69,7 +73,12 @@ fn put_added<'a>(
     match more {
         Appended::One(first) => put_listed(lists, place, pool, &[first]),
         Appended::Two(first, second) => put_listed(lists, place, pool, &[first, second]),
-        Appended::Three(first, second, third) => put_listed(lists, place, pool, &[first, second, third]),
+        Appended::Three(first, second, third) => put_listed(
+            lists,
+            place,
+            pool,
+            &[first, second, third],
+        ),
     }
 }
 

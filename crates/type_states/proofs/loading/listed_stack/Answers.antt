@@ -29,7 +29,7 @@ loop-one-preserved c =
     let short : c.args.room < 2 ^ 16 = omega arith in
     let count = length-map c.args.listed.now (type_listed c.args.pool.now) in
     let before : IsStack (take i ts) c.loop-one.stack.items c.loop-one.words =
-        subst (λ (xs : List VType). IsStack xs c.loop-one.stack.items c.loop-one.words) (sym (take-map (type_listed c.args.pool.now) i c.args.listed.now)) c.loop-one.invariant in
+    subst (λ (xs : List VType). IsStack xs c.loop-one.stack.items c.loop-one.words) (sym (take-map (type_listed c.args.pool.now) i c.args.listed.now)) c.loop-one.invariant in
     let there = c.type_ref-t.ensures ∙ sym (get_or-map (type_listed c.args.pool.now) c.args.listed.now i _ vtype.Top test) in
     subst (λ (xs : List VType). IsStack xs c.push.new.self.items (c.loop-one.words + c.width.result)) (take-map (type_listed c.args.pool.now) (i + 1) c.args.listed.now)
     (subst (λ (s : List VTypeRef). IsStack (take (i + 1) ts) s (c.loop-one.words + c.width.result)) (sym c.in_ok-push.ensures.items)

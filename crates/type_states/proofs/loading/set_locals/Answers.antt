@@ -12,7 +12,7 @@ pub loop-t-init : goal.loop-t-init
 loop-t-init c =
     let cleared = c.clear.ensures in
     let all : length c.clear.new.locals ≡ length c.args.locals.now =
-        sym (length-map c.clear.new.locals type_seen) ∙ ap (λ (ts : List VType). length ts) cleared ∙ length-replicate (length c.args.locals.now) vtype.Top in
+    sym (length-map c.clear.new.locals type_seen) ∙ ap (λ (ts : List VType). length ts) cleared ∙ length-replicate (length c.args.locals.now) vtype.Top in
     let counted = c.words-words.ensures in
     let room = c.requires.room in
     let short = c.ranges.max_locals in

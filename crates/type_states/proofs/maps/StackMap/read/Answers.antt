@@ -17,7 +17,7 @@ loop-place-preserved c =
     let x = c.in-Some.next in
     let so_far = c.loop-place.invariant in
     let is : IsFound (bounds_of c.args.bounds) c.loop-place.last (list_at old c.loop-place.before) c.index-entries-place.result old new (Some x) =
-        subst (λ (o : Option Entry). IsFound (bounds_of c.args.bounds) c.loop-place.last (list_at old c.loop-place.before) c.index-entries-place.result old new o) c.in-Some.is c.in_ok-next.ensures in
+    subst (λ (o : Option Entry). IsFound (bounds_of c.args.bounds) c.loop-place.last (list_at old c.loop-place.before) c.index-entries-place.result old new o) c.in-Some.is c.in_ok-next.ensures in
     let items : c.keep.new.entries.items ≡ found ++ x ∷ [] = c.in_ok-keep.ensures in
     record {
       listed = is.within.listed;
