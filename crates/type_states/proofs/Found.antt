@@ -1,6 +1,6 @@
 -- The entry of an offset, found by halving.
 use Rattle.std.proofs.Common.{◌≡◌, ℕ, zero, suc, ◌∙◌, ◌-◌, ◌+◌, ◌<◌, ◌≤◌, inl, inr, Bool, true, false, List, [], ◌∷◌, length, map, get_or, Option, Some, None, Result, Ok, Err, refl, sym, ap, subst, arith}
-use Rattle.std.specs.Prelude.{◌==◌, All, find, slice_get, option_map, if◌then◌else◌}
+use Rattle.std.specs.Prelude.{◌==◌, All, IfSome, find, slice_get, option_map, if◌then◌else◌}
 use Rattle.std.specs.Option.{option_and_then}
 use Rattle.std.specs.Result.{result_ok}
 use Rattle.std.specs.Ordering.{nat_cmp, ordering_index}
@@ -102,3 +102,7 @@ module _ (pool : List Const) (max_locals : ℕ) (lists : List (List VType)) wher
   held_is [] at (Err i) rising within is = refl
   held_is (e ∷ entries) at r rising within is =
       and_then_held (result_ok r) (e ∷ entries) ∙ ap (option_map frame) (search_is (e ∷ entries) rising at r e within is) ∙ sym (find_held at (e ∷ entries))
+
+  pub held_within : (entries : List Entry) (r : Result ℕ ℕ) → IsSearchInRange r (length entries) → IfSome (result_ok r) (λ place. place < length (frames_held pool max_locals lists entries))
+  held_within entries (Ok i) within = let e = length-map entries frame in let w : i < length entries = within in omega arith
+  held_within entries (Err i) within = tt

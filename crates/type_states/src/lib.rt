@@ -9,6 +9,8 @@ mod accepting;
 mod entry;
 mod kinds;
 mod loading;
+#[cfg(test)]
+mod map_tests;
 mod locals;
 mod maps;
 mod node;

@@ -1,4 +1,4 @@
-ghost use Rattle.std.specs.Prelude.{◌≡◌, ◌==◌, false, find, slice_get};
+ghost use Rattle.std.specs.Prelude.{◌≡◌, ◌==◌, ◌<◌, false, find, length, slice_get, IfSome};
 ghost use Rattle.std.specs.Option.{option_map_or, option_and_then};
 ghost use Rattle.type_frames.specs.TypeChecks.{is_state_assignable, thrown};
 ghost use Rattle.type_states.specs.Given.{given_at};
@@ -38,7 +38,8 @@ impl<'a> Model for StackMap<'a> {
 impl<'a> StackMap<'a> {
     /// The place of the state that is given at an offset, by halving.
     pub fn find(&self, at: u16) -> Option<usize>
-        ensures { option_and_then (λ place. slice_get self.now place) result ≡ find (λ f. f.at == at) self.now }
+        ensures found { option_and_then (λ place. slice_get self.now place) result ≡ find (λ f. f.at == at) self.now }
+        ensures within { IfSome result (λ place. place < length self.now) }
     {
         self.entries
             .binary_search_by_key(&at, |entry| entry.at)
