@@ -5,14 +5,25 @@
 //! variables and its stack alone, and those of a map take together what the map itself takes.
 #![tactic(auto)]
 
+mod accepting;
+mod entry;
 mod kinds;
+mod loading;
+#[cfg(test)]
+mod map_tests;
 mod locals;
+mod maps;
+mod node;
+mod nodes;
 mod operands;
+mod reading;
 mod state;
 mod stop;
 #[cfg(test)]
 mod tests;
 
 pub use kinds::{is_kind, is_long, is_reference, is_word};
+pub use maps::StackMap;
+pub use reading::MapBounds;
 pub use state::State;
 pub use stop::Stop;
