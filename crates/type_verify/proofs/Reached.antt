@@ -186,7 +186,7 @@ begun m states place s p w here can =
       left = f.left;
       enters = subst (λ (q : ℕ × Instr). entered m place q.0 s ≡ Some f.state) same (begins_so m states can.0 s place f.at f.state w can.1 given);
       goes = subst (λ (q : ℕ × Instr). passed m q (slice_get m.env.instrs (place + 1)) f.state ≡ Some f.left) same
-      (is_passed m (f.at, f.instr) (slice_get m.env.instrs (place + 1)) f.state f.left (record { handlers = f.handlers; accepted = f.accepted; followed = f.followed; targets = f.targets }));
+          (is_passed m (f.at, f.instr) (slice_get m.env.instrs (place + 1)) f.state f.left (record { handlers = f.handlers; accepted = f.accepted; followed = f.followed; targets = f.targets }));
     }
 
 offends_where : (m : Checked) (states : List State) (place : ℕ) (s : State) (p : ℕ × Instr) → Walked m states place s → slice_get m.env.instrs place ≡ Some p → (Begins m place s p → ⊥) → IsOffending m p.0

@@ -1,5 +1,6 @@
 -- How the code holds a method that is checked.
-use Rattle.std.specs.Prelude.{List, Option, option_map, map, Ok}
+use Rattle.std.specs.Prelude.{◌≡◌, ◌<◌, ◌^◌, ℕ, List, All, Option, option_map, map, length, Ok}
+use Rattle.class_code.specs.Listing.{IsRising}
 use Rattle.type_frames.specs.Seen.{type_seen}
 use Rattle.type_frames.specs.TypeChecks.{Checked}
 use Rattle.type_rules.specs.Methods.{env_of}
@@ -14,3 +15,9 @@ checked_of c = record {
   map = Ok c.map;
   handlers = c.handlers.now;
 }
+
+-- the offsets rise, and each state of the map has an offset of code, and as many words of locals as the method
+pub record IsReady (c : Checker) : Type 0 where
+  pub rising : IsRising c.method.instrs.now
+  pub short : All (λ f. f.at < 2 ^ 16) c.map
+  pub rooms : All (λ f. length f.locals ≡ c.max_locals) c.map

@@ -1,5 +1,5 @@
 -- What the walk over a method's code finds, one instruction after the other.
-use Rattle.std.specs.Prelude.{◌≡◌, ℕ, zero, suc, ◌+◌, ◌<◌, Bool, not, ◌&&◌, ◌||◌, true, pos, ◌+ℤ◌, List, length, Option, None, Some, slice_get, unwrap_or, if◌then◌else◌}
+use Rattle.std.specs.Prelude.{◌≡◌, ℕ, zero, suc, ◌+◌, ◌<◌, Bool, not, ◌&&◌, ◌||◌, true, ℤ, pos, ◌+ℤ◌, nat_lt, List, length, Option, None, Some, slice_get, unwrap_or, if◌then◌else◌}
 use Rattle.std.specs.List.{list_all}
 use Rattle.std.specs.Option.{option_map_or}
 use Rattle.ti_ids.specs.Maybe.{◌>>=◌}
@@ -44,3 +44,8 @@ pub record Walked (m : Checked) (states : List State) (place : ℕ) (s : State) 
   pub count : length states ≡ place
   pub fit : (k : ℕ) → k < place → FitsAt m states k
   pub reached : IsReached m states place s
+
+-- a place of code, of which each offset fits 16 bits
+abbrev pub offset_in_code : ℤ → Option ℕ
+offset_in_code (pos at) = if nat_lt at 65536 then Some at else None
+offset_in_code target = None

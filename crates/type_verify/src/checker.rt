@@ -1,18 +1,19 @@
 //! One instruction of a method, and where it leads.
-ghost use Rattle.std.specs.Prelude.{◌≡◌, ◌+ℤ◌, pos, IsTrue, IsFalse, option_copied};
-ghost use Rattle.class_code.specs.declared.instr.Instr.TheVariants.{TableSwitch, LookupSwitch};
+ghost use Rattle.std.specs.Prelude.{◌≡◌, ℕ, ◌+ℤ◌, pos, true, false, map, Some, option_copied};
 ghost use Rattle.std.specs.List.{list_all};
-ghost use Rattle.class_code.specs.Listing.{IsRising};
-ghost use Rattle.type_frames.specs.TypeChecks.{is_accepted_at, may_follow as follows_on, caught, is_handled};
-ghost use Rattle.type_verify.specs.Covering.{CoversAt};
+ghost use Rattle.std.specs.Option.{option_map_or};
+ghost use Rattle.class_code.specs.declared.instr.Instr.TheVariants.{TableSwitch as a_table, LookupSwitch as a_lookup};
+ghost use Rattle.type_frames.specs.TypeChecks.{mapped, is_state_assignable, is_accepted_at, may_follow as follows_on, caught as caught_by, throwable_name, thrown, is_handled};
+ghost use Rattle.type_frames.specs.Assignable.{is_assignable};
+ghost use Rattle.type_frames.specs.declared.vtype.VType.TheVariants.{Object};
 ghost use Rattle.type_states.specs.Answers.{Leaves};
-ghost use Rattle.type_verify.specs.Walking.{are_handled as all_handle, are_accepted as all_accept, passed, entered_first, entered_later};
-ghost use Rattle.type_verify.specs.Checkers.{checked_of};
+ghost use Rattle.type_verify.specs.Checkers.{checked_of, IsReady};
+ghost use Rattle.type_verify.specs.Walking.{are_handled as all_handle, are_accepted as all_accept, entered_first, entered_later, passed, offset_in_code as offset_of};
 
 use crate::falls_through;
-use crate::handlers::Covering;
 use class_code::{Instr, LookupSwitch, TableSwitch};
 use class_tree::Handler;
+use handler_ranges::Covering;
 use std::alloc::Global;
 use type_frames::{ClassName, VTypeRef, stands_for};
 use type_rules::{Method, rule};
@@ -23,6 +24,17 @@ const THROWABLE: [u16; 19] = [
     0x6a, 0x61, 0x76, 0x61, 0x2f, 0x6c, 0x61, 0x6e, 0x67, 0x2f, 0x54, 0x68, 0x72, 0x6f, 0x77, 0x61,
     0x62, 0x6c, 0x65,
 ];
+
+/// A place of code, where there can be one.
+fn offset_in_code(target: i64) -> Option<u16>
+    ensures { result ≡ offset_of target }
+{
+    if (0..=0xffff).contains(&target) {
+        Some(target as u16)
+    } else {
+        None
+    }
+}
 
 /// A method's code while it is checked.
 #[derive(Drop)]
@@ -38,32 +50,62 @@ pub(crate) struct Checker<'a> {
 
 impl<'a> Checker<'a> {
     /// Whether the stack map has a state at an offset for which this one may be taken.
-    fn accepts(&self, target: i64, state: &State<'_>) -> bool
-        ensures { result ≡ is_accepted_at (checked_of self.now) target state.now }
+    #[tactic(auto, using(crate::proofs::Mapped::accepted_none, crate::proofs::Mapped::accepted_there))]
+    fn accepts_at(&self, at: u16, state: &State<'_>) -> bool
+        ensures { result ≡ option_map_or (is_state_assignable self.now.method.hierarchy.now state.now) (mapped (checked_of self.now) at) false }
     {
-        if !(0..=0xffff).contains(&target) {
-            return false;
-        }
-        match self.map.find(target as u16) {
+        match self.map.find(at) {
             Some(place) => self.map.accepts(self.method.hierarchy, place, state),
             None => false,
         }
     }
 
-    /// Whether what an instruction leaves is accepted behind it.
-    fn may_follow(&self, falls: bool, left: &State<'_>, next: Option<&(u16, Instr)>) -> bool
-        ensures { result ≡ follows_on (checked_of self.now) falls left.now (option_copied next) }
+    /// The same at a target of a jump, which may lie outside of all code.
+    #[tactic(auto, using(crate::proofs::Mapped::accepted_in_code, crate::proofs::Mapped::accepted_past))]
+    fn accepts(&self, target: i64, state: &State<'_>) -> bool
+        requires { IsReady self.now }
+        ensures { result ≡ is_accepted_at (checked_of self.now) target state.now }
     {
-        let Some((at, _)) = next else {
-            return !falls;
-        };
-        match self.map.find(*at) {
-            Some(place) => !falls || self.map.accepts(self.method.hierarchy, place, left),
-            None => falls,
+        match offset_in_code(target) {
+            Some(at) => self.accepts_at(at, state),
+            None => false,
         }
     }
 
+    /// Whether the next instruction's state may be what this one leaves.
+    #[tactic(auto, using(crate::proofs::Mapped::follows_into, crate::proofs::Mapped::follows_freely))]
+    fn may_fall(&self, left: &State<'_>, next: &(u16, Instr)) -> bool
+        ensures { result ≡ follows_on (checked_of self.now) true left.now (Some next.now) }
+    {
+        match self.map.find(next.0) {
+            Some(place) => self.map.accepts(self.method.hierarchy, place, left),
+            None => true,
+        }
+    }
+
+    /// Whether the next instruction has a state of the stack map.
+    #[tactic(auto, using(crate::proofs::Mapped::given_there, crate::proofs::Mapped::given_nowhere))]
+    fn is_given(&self, left: &State<'_>, next: &(u16, Instr)) -> bool
+        ensures { result ≡ follows_on (checked_of self.now) false left.now (Some next.now) }
+    {
+        let _ = left;
+        self.map.find(next.0).is_some()
+    }
+
+    /// Whether what an instruction leaves is accepted behind it.
+    fn may_follow(&self, falls: bool, left: &State<'_>, next: Option<&(u16, Instr)>) -> bool
+        ensures { result ≡ follows_on (checked_of self.now) falls left.now (option_copied next.entry) }
+    {
+        match next {
+            None => !falls,
+            Some(entry) if falls => self.may_fall(left, entry),
+            Some(entry) => self.is_given(left, entry),
+        }
+    }
+
+    /// Whether a state is accepted at each of these offsets from an instruction's own.
     fn accepts_all(&self, at: u16, offsets: &[i32], state: &State<'_>) -> bool
+        requires { IsReady self.now }
         ensures { result ≡ list_all (λ by. is_accepted_at (checked_of self.now) (pos at +ℤ by) state.now) offsets.now }
     {
         offsets
@@ -72,25 +114,38 @@ impl<'a> Checker<'a> {
     }
 
     fn accepts_table(&self, at: u16, table: &TableSwitch, state: &State<'_>) -> bool
-        ensures { result ≡ all_accept (checked_of self.now) at (TableSwitch table.now) state.now }
+        requires { IsReady self.now }
+        ensures { result ≡ all_accept (checked_of self.now) at (a_table table.now) state.now }
     {
         self.accepts(i64::from(at) + i64::from(table.default), state)
             && self.accepts_all(at, table.offsets.as_slice(), state)
     }
 
+    fn accepts_each(&self, at: u16, pairs: &[(i32, i32)], state: &State<'_>) -> bool
+        requires { IsReady self.now }
+        ensures { result ≡ list_all (λ p. is_accepted_at (checked_of self.now) (pos at +ℤ p.1) state.now) pairs.now }
+    {
+        pairs.iter().all(|pair| self.accepts(i64::from(at) + i64::from(pair.1), state))
+    }
+
+    fn accepts_pairs(&self, at: u16, pairs: &[(i32, i32)], state: &State<'_>) -> bool
+        requires { IsReady self.now }
+        ensures { result ≡ list_all (λ by. is_accepted_at (checked_of self.now) (pos at +ℤ by) state.now) (map (λ p. p.1) pairs.now) }
+    {
+        self.accepts_each(at, pairs, state)
+    }
+
     fn accepts_lookup(&self, at: u16, lookup: &LookupSwitch, state: &State<'_>) -> bool
-        ensures { result ≡ all_accept (checked_of self.now) at (LookupSwitch lookup.now) state.now }
+        requires { IsReady self.now }
+        ensures { result ≡ all_accept (checked_of self.now) at (a_lookup lookup.now) state.now }
     {
         self.accepts(i64::from(at) + i64::from(lookup.default), state)
-            && lookup
-                .pairs
-                .as_slice()
-                .iter()
-                .all(|pair| self.accepts(i64::from(at) + i64::from(pair.1), state))
+            && self.accepts_pairs(at, lookup.pairs.as_slice(), state)
     }
 
     /// Whether what an instruction leaves is accepted wherever it may jump.
     fn are_accepted(&self, at: u16, instr: &Instr, state: &State<'_>) -> bool
+        requires { IsReady self.now }
         ensures { result ≡ all_accept (checked_of self.now) at instr.now state.now }
     {
         match instr {
@@ -104,7 +159,7 @@ impl<'a> Checker<'a> {
 
     /// The class that a handler catches (4.10.1.6): `Throwable` where it catches all.
     fn caught(&self, handler: &Handler) -> &'a [u16]
-        ensures { result.now ≡ caught (checked_of self.now) handler.now }
+        ensures { result.now ≡ caught_by (checked_of self.now) handler.now }
     {
         match self.method.tree.class_at(handler.catch_type) {
             Some(class) => class.as_slice(),
@@ -112,70 +167,48 @@ impl<'a> Checker<'a> {
         }
     }
 
+    /// Whether the stack map has a state at a handler's offset for which what it begins with may be taken.
+    #[tactic(auto, using(crate::proofs::Mapped::accepted_none, crate::proofs::Mapped::accepted_there))]
+    fn accepts_thrown(&self, at: u16, class: &[u16], state: &State<'_>) -> bool
+        ensures { result ≡ is_accepted_at (checked_of self.now) (pos at) (thrown class.now state.now) }
+    {
+        match self.map.find(at) {
+            Some(place) => {
+                self.map
+                    .accepts_thrown(self.method.hierarchy, place, state, class)
+            }
+            None => false,
+        }
+    }
+
+    /// Whether a class is one of what can be thrown.
+    fn is_throwable(&self, class: &[u16]) -> bool
+        ensures { result ≡ is_assignable self.now.method.hierarchy.now (Object class.now) (Object throwable_name) }
+    {
+        let throwable = VTypeRef::Object(ClassName::Named(&THROWABLE));
+        let thrown = VTypeRef::Object(ClassName::Named(class));
+        stands_for(self.method.hierarchy, thrown, throwable)
+    }
+
     /// Whether a handler accepts what may be thrown in this state.
     fn handles(&self, handler: &Handler, state: &State<'_>) -> bool
         ensures { result ≡ is_handled (checked_of self.now) state.now handler.now }
     {
         let class = self.caught(handler);
-        let (thrown, throwable) = (ClassName::Named(class), ClassName::Named(&THROWABLE));
-        stands_for(self.method.hierarchy, VTypeRef::Object(thrown), VTypeRef::Object(throwable))
-            && match self.map.find(handler.target) {
-                Some(place) => {
-                    self.map
-                        .accepts_thrown(self.method.hierarchy, place, state, class)
-                }
-                None => false,
-            }
+        self.is_throwable(class) && self.accepts_thrown(handler.target, class, state)
     }
 
     /// Whether each handler that covers an offset accepts what may be thrown there.
     fn are_handled(&self, covering: &Covering<'_>, state: &State<'_>) -> bool
-        ensures { (at : ℕ) → CoversAt covering.now self.now.handlers.now at → result ≡ all_handle (checked_of self.now) at state.now }
+        requires { covering.now.handlers ≡ self.now.handlers.now }
+        ensures { (at : ℕ) → covering.now.reached ≡ Some at → result ≡ all_handle (checked_of self.now) at state.now }
     {
-        covering
-            .active
-            .iter()
-            .all(|place| self.handles(&self.handlers[*place], state))
-    }
-
-    /// The state with which an instruction begins, from the one that it is reached with.
-    pub(crate) fn enter(&self, first: bool, at: u16, state: &mut State<'a>) -> Result<(), Stop>
-        ensures first { IsTrue first → Leaves result state.new (entered_first (checked_of self.now) at state.old) }
-        ensures later { IsFalse first → Leaves result state.new (entered_later (checked_of self.now) at state.old) }
-    {
-        let Some(place) = self.map.find(at) else {
-            return Ok(());
-        };
-        if first && !self.map.accepts(self.method.hierarchy, place, state) {
-            return Err(Stop::Refused);
+        let handlers = covering.handlers();
+        for place in covering.places() {
+            if !self.handles(&handlers[*place], state) {
+                return false;
+            }
         }
-        self.map.load(place, state)?;
-        Ok(())
-    }
-
-    /// What an instruction leaves of the state that it begins with, where its rule, its handlers and all to which it leads accept it.
-    pub(crate) fn pass(
-        &self,
-        alloc: Global,
-        covering: &Covering<'a>,
-        entry: &(u16, Instr),
-        next: Option<&(u16, Instr)>,
-        state: &mut State<'a>,
-    ) -> Result<(), Stop>
-        requires rising { IsRising self.now.method.instrs.now }
-        requires covering { CoversAt covering.now self.now.handlers.now entry.now.0 }
-        ensures { Leaves result state.new (passed (checked_of self.now) entry.now (option_copied next) state.old) }
-    {
-        let (at, instr) = (entry.0, &entry.1);
-        if !self.are_handled(covering, state) {
-            return Err(Stop::Refused);
-        }
-        rule(alloc, &self.method, at, instr, state)?;
-        if self.may_follow(falls_through(instr), state, next) && self.are_accepted(at, instr, state)
-        {
-            Ok(())
-        } else {
-            Err(Stop::Refused)
-        }
+        true
     }
 }

@@ -2,6 +2,7 @@
 //! where they fail first.
 #![tactic(auto)]
 
+mod checker;
 mod flow;
 
 pub use flow::falls_through;
