@@ -8,3 +8,4 @@ pub mod MethodLaws
 pub mod Fitting
 pub mod Formed
 pub mod Examples
+pub mod Sizes
