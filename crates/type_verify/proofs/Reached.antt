@@ -1,6 +1,6 @@
 -- One instruction after the other: what passes fits, and what doesn't pass offends.
 use Rattle.std.proofs.Common.{◌≡◌, ℕ, zero, suc, ◌+◌, ◌<◌, ◌≤◌, ◌∙◌, Bool, true, false, not, List, [], ◌∷◌, ◌++◌, length, Option, Some, None, refl, sym, ap, subst, add-one, below_more, arith}
-use Rattle.std.specs.Prelude.{slice_get, ◌&&◌, ◌||◌, IsTrue, unwrap_or, if◌then◌else◌}
+use Rattle.std.specs.Prelude.{slice_get, find, ◌==◌, ◌&&◌, ◌||◌, All, IsTrue, unwrap_or, Result, Ok, if◌then◌else◌}
 use Rattle.std.specs.List.{list_all}
 use Rattle.std.specs.Option.{option_map_or}
 use Rattle.std.proofs.lemmas.Bool.{and_parts}
@@ -9,9 +9,11 @@ use Rattle.ti_ids.specs.Maybe.{◌>>=◌}
 use Rattle.class_code.specs.declared.instr.Instr.{Instr}
 use Rattle.type_frames.specs.States.{State}
 use Rattle.type_frames.specs.Rules.{rule, falls_through}
-use Rattle.type_frames.specs.TypeChecks.{Checked, initial, mapped, is_state_assignable, may_follow, left_at, IsFirst, IsLater, IsGiven, FitsAt, FitsUpTo, CanFit, AreStates, IsOffending}
+use Rattle.type_frames.specs.TypeChecks.{Checked, initial, mapped, map_frames, state_of, is_state_assignable, may_follow, left_at, IsFirst, IsLater, IsGiven, FitsAt, FitsUpTo, CanFit, AreStates, IsOffending}
+use Rattle.type_frames.specs.declared.frame.MapFrame.{MapFrame}
 use Rattle.type_frames.proofs.StateLaws.{agree}
-use Rattle.type_verify.specs.Walking.{are_handled, are_accepted, goes_on, passed, entered_first, entered, IsReached, Walked}
+use Rattle.type_frames.proofs.Sizes.{rule_keeps_locals}
+use Rattle.type_verify.specs.Walking.{are_handled, are_accepted, goes_on, passed, entered_first, entered, stepped, IsReached, Walked}
 
 some_is : {A : Type 0} {x y : A} → Some x ≡ Some y → x ≡ y
 some_is e = cc
@@ -235,3 +237,82 @@ walked_none m s e = record { count = refl; fit = λ k lt. absurd (omega arith); 
 
 pub walked_all : (m : Checked) (states : List State) (s : State) → Walked m states (length m.env.instrs) s → AreStates m states
 walked_all m states s w = let count = w.count in record { count = w.count; fit = λ place lt. w.fit place (omega arith) }
+
+-- ---- one step
+
+pub record Stepped (m : Checked) (place : ℕ) (p : ℕ × Instr) (next : Option (ℕ × Instr)) (s left : State) : Type 0 where
+  pub state : State
+  pub enters : entered m place p.0 s ≡ Some state
+  pub passes : passed m p next state ≡ Some left
+
+step_by : (m : Checked) (place : ℕ) (p : ℕ × Instr) (next : Option (ℕ × Instr)) (s left : State) (state : Option State) → entered m place p.0 s ≡ state → (state >>= passed m p next) ≡ Some left → Stepped m place p next s left
+step_by m place p next s left None enters e = absurd cc
+step_by m place p next s left (Some state) enters e = record { state = state; enters = enters; passes = e }
+
+pub step_of : (m : Checked) (place : ℕ) (p : ℕ × Instr) (next : Option (ℕ × Instr)) (s left : State) → stepped m place p next s ≡ Some left → Stepped m place p next s left
+step_of m place p next s left e = step_by m place p next s left (entered m place p.0 s) refl e
+
+offends_by : (m : Checked) (states : List State) (place : ℕ) (s : State) (p : ℕ × Instr) (state : Option State) → Walked m states place s → slice_get m.env.instrs place ≡ Some p → entered m place p.0 s ≡ state
+    → (state >>= passed m p (slice_get m.env.instrs (place + 1))) ≡ None → IsOffending m p.0
+offends_by m states place s p None w here enters e = offends_entering m states place s p w here enters
+offends_by m states place s p (Some state) w here enters e = offends_passing m states place s state p w here enters e
+
+-- some states have been found up to a place
+pub record IsWalked (m : Checked) (place : ℕ) (s : State) : Type 0 where
+  pub states : List State
+  pub walked : Walked m states place s
+  pub room : length s.locals ≡ m.max_locals
+
+passed_room : (m : Checked) (p : ℕ × Instr) (next : Option (ℕ × Instr)) (s left : State) → passed m p next s ≡ Some left → length left.locals ≡ length s.locals
+passed_room m p next s left e = rule_keeps_locals m.env p.0 p.1 s left (passes m p next s left e).accepted
+
+-- what a map gives has its room
+found_room : (frames : List MapFrame) (at : ℕ) (g : State) (room : ℕ) → All (λ f. length f.locals ≡ room) frames → (find (λ f. f.at == at) frames >>= λ f. Some (state_of f)) ≡ Some g → length g.locals ≡ room
+found_room [] at g room rooms e = absurd cc
+found_room (f ∷ frames) at g room rooms e = by (f.at == at) (found_room frames at g room (λ k d lt. rooms (suc k) d (omega arith))) e
+  where
+    by : (same : Bool) → ((find (λ x. x.at == at) frames >>= λ x. Some (state_of x)) ≡ Some g → length g.locals ≡ room)
+        → ((if same then Some f else find (λ x. x.at == at) frames) >>= λ x. Some (state_of x)) ≡ Some g → length g.locals ≡ room
+    by true later e = ap (λ (x : State). length x.locals) (sym (some_is e)) ∙ rooms 0 f (omega arith)
+    by false later e = later e
+
+abbrev enter_by : Checked → ℕ → State → Option State → Option State
+enter_by m zero s given = elim given [ None ↦ Some s | Some g ↦ if is_state_assignable m.env.hierarchy s g then Some g else None ]
+enter_by m (suc before) s given = Some (unwrap_or given s)
+
+enter_is : (m : Checked) (place at : ℕ) (s : State) → entered m place at s ≡ enter_by m place s (mapped m at)
+enter_is m zero at s = refl
+enter_is m (suc before) at s = refl
+
+entered_room : (m : Checked) (frames : List MapFrame) (place at : ℕ) (s state : State) → m.map ≡ Ok frames → All (λ f. length f.locals ≡ m.max_locals) frames → length s.locals ≡ m.max_locals
+    → entered m place at s ≡ Some state → length state.locals ≡ m.max_locals
+entered_room m frames place at s state map rooms room e =
+    by place (mapped m at) (ap (λ (r : Result (List MapFrame) ℕ). find (λ f. f.at == at) (map_frames r) >>= λ f. Some (state_of f)) map) (sym (enter_is m place at s) ∙ e)
+  where
+    of_map : (given : Option State) → given ≡ (find (λ f. f.at == at) frames >>= λ f. Some (state_of f)) → (g : State) → given ≡ Some g → length g.locals ≡ m.max_locals
+    of_map given is g there = found_room frames at g m.max_locals rooms (sym is ∙ there)
+
+    by : (place : ℕ) (given : Option State) → given ≡ (find (λ f. f.at == at) frames >>= λ f. Some (state_of f)) → enter_by m place s given ≡ Some state → length state.locals ≡ m.max_locals
+    by zero None is e = ap (λ (x : State). length x.locals) (sym (some_is e)) ∙ room
+    by zero (Some g) is e = let both = if_some (is_state_assignable m.env.hierarchy s g) g state e in of_map (Some g) is state (ap Some both.1)
+    by (suc before) None is e = ap (λ (x : State). length x.locals) (sym (some_is e)) ∙ room
+    by (suc before) (Some g) is e = of_map (Some g) is state e
+
+pub walk_more : (m : Checked) (frames : List MapFrame) (place : ℕ) (s left : State) (p : ℕ × Instr) → m.map ≡ Ok frames → All (λ f. length f.locals ≡ m.max_locals) frames → IsWalked m place s
+    → slice_get m.env.instrs place ≡ Some p → stepped m place p (slice_get m.env.instrs (place + 1)) s ≡ Some left → IsWalked m (place + 1) left
+walk_more m frames place s left p map rooms w here e =
+    let step = step_of m place p (slice_get m.env.instrs (place + 1)) s left e in
+    record {
+      states = w.states ++ step.state ∷ [];
+      walked = walked_more m w.states place s step.state left p w.walked here step.enters step.passes;
+      room = passed_room m p (slice_get m.env.instrs (place + 1)) step.state left step.passes ∙ entered_room m frames place p.0 s step.state map rooms w.room step.enters;
+    }
+
+pub walk_offends : (m : Checked) (place : ℕ) (s : State) (p : ℕ × Instr) → IsWalked m place s → slice_get m.env.instrs place ≡ Some p → stepped m place p (slice_get m.env.instrs (place + 1)) s ≡ None → IsOffending m p.0
+walk_offends m place s p w here e = offends_by m w.states place s p (entered m place p.0 s) w.walked here refl e
+
+pub walk_none : (m : Checked) (s : State) → initial m ≡ Some s → length s.locals ≡ m.max_locals → IsWalked m 0 s
+walk_none m s e room = record { states = []; walked = walked_none m s e; room = room }
+
+pub walk_all : (m : Checked) (place : ℕ) (s : State) → length m.env.instrs ≤ place → place ≤ length m.env.instrs → IsWalked m place s → (states : List State) × AreStates m states
+walk_all m place s low high w = let same : place ≡ length m.env.instrs = omega arith in (w.states, walked_all m w.states s (subst (λ (k : ℕ). Walked m w.states k s) same w.walked))

@@ -35,6 +35,10 @@ abbrev pub entered : Checked → ℕ → ℕ → State → Option State
 entered m zero at s = entered_first m at s
 entered m (suc before) at s = entered_later m at s
 
+-- what the instruction at a place leaves of the state that it is reached with
+abbrev pub stepped : Checked → ℕ → ℕ × Instr → Option (ℕ × Instr) → State → Option State
+stepped m place p next s = entered m place p.0 s >>= passed m p next
+
 -- what is known where so many instructions have passed: their states, and the one that the next is reached with
 abbrev pub IsReached : Checked → List State → ℕ → State → Type 0
 IsReached m states zero s = initial m ≡ Some s

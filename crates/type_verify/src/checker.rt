@@ -1,5 +1,5 @@
 //! One instruction of a method, and where it leads.
-ghost use Rattle.std.specs.Prelude.{◌≡◌, ℕ, ◌+ℤ◌, pos, true, false, map, Some, option_copied};
+ghost use Rattle.std.specs.Prelude.{◌≡◌, ℕ, ◌+ℤ◌, pos, true, false, map, length, Some, option_copied};
 ghost use Rattle.std.specs.List.{list_all};
 ghost use Rattle.std.specs.Option.{option_map_or};
 ghost use Rattle.class_code.specs.declared.instr.Instr.TheVariants.{TableSwitch as a_table, LookupSwitch as a_lookup};
@@ -8,7 +8,7 @@ ghost use Rattle.type_frames.specs.Assignable.{is_assignable};
 ghost use Rattle.type_frames.specs.declared.vtype.VType.TheVariants.{Object};
 ghost use Rattle.type_states.specs.Answers.{Leaves};
 ghost use Rattle.type_verify.specs.Checkers.{checked_of, IsReady};
-ghost use Rattle.type_verify.specs.Walking.{are_handled as all_handle, are_accepted as all_accept, entered_first, entered_later, passed, offset_in_code as offset_of};
+ghost use Rattle.type_verify.specs.Walking.{are_handled as all_handle, are_accepted as all_accept, entered_first, entered_later, entered, passed, offset_in_code as offset_of};
 
 use crate::falls_through;
 use class_code::{Instr, LookupSwitch, TableSwitch};
@@ -210,5 +210,82 @@ impl<'a> Checker<'a> {
             }
         }
         true
+    }
+
+    /// The state with which the first instruction begins, from that of the descriptor.
+    #[tactic(auto, using(crate::proofs::Entering::first_none, crate::proofs::Entering::first_there, crate::proofs::Entering::first_not))]
+    fn enter_first(&self, alloc: Global, at: u16, state: &mut State<'a>) -> Result<(), Stop>
+        requires ready { IsReady self.now }
+        requires room { length state.old.locals ≡ self.now.max_locals }
+        ensures { Leaves result state.new (entered_first (checked_of self.now) at state.old) }
+    {
+        let Some(place) = self.map.find(at) else {
+            return Ok(());
+        };
+        if !self.map.accepts(self.method.hierarchy, place, state) {
+            return Err(Stop::Refused);
+        }
+        self.map.load(alloc, place, state)?;
+        Ok(())
+    }
+
+    /// The state with which a later instruction begins, from what the one before it left.
+    #[tactic(auto, using(crate::proofs::Entering::later_none, crate::proofs::Entering::later_there))]
+    fn enter_later(&self, alloc: Global, at: u16, state: &mut State<'a>) -> Result<(), Stop>
+        requires ready { IsReady self.now }
+        requires room { length state.old.locals ≡ self.now.max_locals }
+        ensures { Leaves result state.new (entered_later (checked_of self.now) at state.old) }
+    {
+        let Some(place) = self.map.find(at) else {
+            return Ok(());
+        };
+        self.map.load(alloc, place, state)?;
+        Ok(())
+    }
+
+    /// The state with which the instruction at a place begins, from the one that it is reached with.
+    pub(crate) fn enter(
+        &self,
+        alloc: Global,
+        place: usize,
+        at: u16,
+        state: &mut State<'a>,
+    ) -> Result<(), Stop>
+        requires ready { IsReady self.now }
+        requires room { length state.old.locals ≡ self.now.max_locals }
+        ensures { Leaves result state.new (entered (checked_of self.now) place at state.old) }
+    {
+        if place == 0 {
+            self.enter_first(alloc, at, state)
+        } else {
+            self.enter_later(alloc, at, state)
+        }
+    }
+
+    /// What an instruction leaves of the state that it begins with, where its handlers, its rule and all to which it leads accept it.
+    pub(crate) fn pass(
+        &self,
+        alloc: Global,
+        covering: &Covering<'_>,
+        entry: &(u16, Instr),
+        next: Option<&(u16, Instr)>,
+        state: &mut State<'a>,
+    ) -> Result<(), Stop>
+        requires ready { IsReady self.now }
+        requires handlers { covering.now.handlers ≡ self.now.handlers.now }
+        requires reached { covering.now.reached ≡ Some entry.now.0 }
+        ensures { Leaves result state.new (passed (checked_of self.now) entry.now (option_copied next.entry) state.old) }
+    {
+        if !self.are_handled(covering, state) {
+            return Err(Stop::Refused);
+        }
+        rule(alloc, &self.method, entry.0, &entry.1, state)?;
+        if self.may_follow(falls_through(&entry.1), state, next)
+            && self.are_accepted(entry.0, &entry.1, state)
+        {
+            Ok(())
+        } else {
+            Err(Stop::Refused)
+        }
     }
 }

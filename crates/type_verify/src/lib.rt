@@ -4,5 +4,6 @@
 
 mod checker;
 mod flow;
+mod walk;
 
 pub use flow::falls_through;

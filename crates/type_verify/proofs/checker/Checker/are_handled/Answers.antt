@@ -1,30 +1,45 @@
-use Rattle.std.proofs.Common.{rules, ◌≡◌, ℕ, ◌+ℤ◌, pos, true, false, map, Some, option_copied, ◌+◌, ◌-◌, ◌*◌, ◌<◌, ◌≤◌, length, ◌/◌, ◌%◌, Bool, nat_eq, nat_lt, List, [], ◌∷◌, ◌++◌, slice_index_or, slice_set, bit_and, bit_or, Fits, w8, w32, w64, Bor, MutBor}
+use Rattle.std.proofs.Common.{◌≡◌, ℕ, ◌<◌, Bool, true, false, length, get_or, take, subst, sym, ap₂, ◌∙◌, arith}
+use Rattle.std.specs.Prelude.{◌&&◌}
 use Rattle.std.specs.List.{list_all}
-use Rattle.std.specs.Option.{option_map_or}
-use Rattle.class_code.specs.declared.instr.Instr.TheVariants.{TableSwitch as a_table}
-use Rattle.class_code.specs.declared.instr.Instr.TheVariants.{LookupSwitch as a_lookup}
-use Rattle.type_frames.specs.TypeChecks.{mapped, is_state_assignable, is_accepted_at}
-use Rattle.type_frames.specs.TypeChecks.{may_follow as follows_on}
-use Rattle.type_frames.specs.TypeChecks.{caught as caught_by}
-use Rattle.type_frames.specs.TypeChecks.{throwable_name, thrown, is_handled}
-use Rattle.type_frames.specs.Assignable.{is_assignable}
-use Rattle.type_frames.specs.declared.vtype.VType.TheVariants.{Object}
-use Rattle.type_states.specs.Answers.{Leaves}
-use Rattle.type_verify.specs.Checkers.{checked_of, IsReady}
-use Rattle.type_verify.specs.Walking.{are_handled as all_handle}
-use Rattle.type_verify.specs.Walking.{are_accepted as all_accept}
-use Rattle.type_verify.specs.Walking.{entered_first, entered_later, passed}
-use Rattle.type_verify.specs.Walking.{offset_in_code as offset_of}
+use Rattle.std.proofs.lemmas.List.Folds.{list_all_more, list_all_at}
+use Rattle.std.proofs.lemmas.List.{take_all}
+use Rattle.class_tree.specs.declared.body.Handler.{Handler}
+use Rattle.handler_ranges.specs.Coverage.{passes_at, CoversAt}
+use Rattle.handler_ranges.proofs.Places.{list_all-covering, passes_at-get_or}
+use Rattle.type_frames.specs.TypeChecks.{is_handled}
+use Rattle.type_verify.specs.Checkers.{checked_of}
 use Rattle.type_verify.proofs.checker.Checker.are_handled.Goals as goal
 
--- src/checker.rt:209:17
 pub returns-then-not-handles : goal.returns-then-not-handles
-returns-then-not-handles c = ?
+returns-then-not-handles c = λ at reached.
+    let test = is_handled (checked_of c.args.self.now) c.args.state.now in
+    let handlers = c.args.covering.now.handlers in
+    let places = c.places-place-items.result.now in
+    let covers : CoversAt handlers places at = rw reached at c.places-place-items.ensures.covering in
+    let law = list_all-covering handlers places at test covers in
+    let here = passes_at-get_or handlers test (get_or places c.loop-place.place-index 0) (record { start = 0; end = 0; target = 0; catch_type = 0 }) (c.places-place-items.ensures.within _ 0 c.loop-place-test.true) in
+    let fails : passes_at handlers test (get_or places c.loop-place.place-index 0) ≡ false = here ∙ rw (← c.handlers-handlers.ensures) (sym c.handles.ensures ∙ c.if-not-handles.true) in
+    let all : list_all test c.args.self.now.handlers.now ≡ list_all test c.args.self.now.handlers.now = λ i. list_all test c.args.self.now.handlers.now in
+    rw (← c.requires) (sym (list_all_at (passes_at handlers test) places c.loop-place.place-index 0 c.loop-place-test.true fails) ∙ law)
 
--- src/checker.rt:207:9
 pub loop-place-preserved : goal.loop-place-preserved
-loop-place-preserved c = ?
+loop-place-preserved c =
+    let test = is_handled (checked_of c.args.self.now) c.args.state.now in
+    let handlers = c.handlers-handlers.result.now in
+    let places = c.places-place-items.result.now in
+    let within : get_or places c.loop-place.place-index 0 < length handlers = rw c.handlers-handlers.ensures (c.places-place-items.ensures.within _ 0 c.loop-place-test.true) in
+    let here = passes_at-get_or handlers test (get_or places c.loop-place.place-index 0) (record { start = 0; end = 0; target = 0; catch_type = 0 }) within in
+    list_all_more (passes_at handlers test) places c.loop-place.place-index 0 c.loop-place-test.true
+    ∙ ap₂ ◌&&◌ c.loop-place.invariant (here ∙ sym c.handles.ensures ∙ c.if-not-handles.false)
 
--- src/checker.rt:202:5
 pub returns : goal.returns
-returns c = ?
+returns c = λ at reached.
+    let test = is_handled (checked_of c.args.self.now) c.args.state.now in
+    let handlers = c.args.covering.now.handlers in
+    let places = c.places-place-items.result.now in
+    let covers : CoversAt handlers places at = rw reached at c.places-place-items.ensures.covering in
+    let law = list_all-covering handlers places at test covers in
+    let all : take c.loop-place.place-index places ≡ places = take_all c.loop-place.place-index places (omega arith) in
+    let done : list_all (passes_at handlers test) places ≡ true =
+    rw (← c.handlers-handlers.ensures) (subst (λ l. list_all (passes_at c.handlers-handlers.result.now test) l ≡ true) all c.loop-place.invariant) in
+    rw (← c.requires) (sym done ∙ law)
