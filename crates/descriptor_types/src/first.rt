@@ -9,7 +9,7 @@ use std::alloc::{AllocError, Global};
 use type_frames::{ClassName, VTypeRef};
 
 /// Whether a method is an `<init>`.
-fn is_init(tree: &ClassFile, member: &Member) -> bool
+pub fn is_init(tree: &ClassFile, member: &Member) -> bool
     ensures { result ≡ is_init tree.now member.now }
 {
     match tree.name_of(member) {

@@ -10,5 +10,5 @@ mod tests;
 mod unit;
 
 pub use field::{field_ref, field_ref_checked};
-pub use first::{first_refs, parameter_refs, result_ref, this_refs};
+pub use first::{first_refs, is_init, parameter_refs, result_ref, this_refs};
 pub use method::{MethodRefs, method_refs};

@@ -2,3 +2,5 @@ pub mod Reached
 pub mod Mapped
 pub mod Entering
 pub mod Offsets
+pub mod Named
+pub mod Checked

@@ -2,7 +2,9 @@
 //! where they fail first.
 #![tactic(auto)]
 
+mod begin;
 mod checker;
+mod code;
 mod flow;
 mod walk;
 
