@@ -2,6 +2,7 @@
 //! where they fail first.
 #![tactic(auto)]
 
+mod begin;
 mod checker;
 mod flow;
 mod walk;
