@@ -4,3 +4,4 @@ pub mod Entering
 pub mod Offsets
 pub mod Named
 pub mod Checked
+pub mod Beginning
