@@ -65,7 +65,7 @@ module _ (b : Bounds) (offsets : All (λ p. p.0 < 2 ^ 16) b.instrs) where
     where
       by : (f : Option (MapFrame × List VType)) → frame_after b last before x ≡ f
           → ((at : Option ℕ) (locals : List VType) (rest : List MapFrame) → frames_from b (place + 1) at locals entries ≡ Ok rest → All (λ y. y.at < 2 ^ 16) rest)
-          → (elim f [ None ↦ Err place | Some g ↦ with_first g.0 (frames_from b (place + 1) (Some g.0.at) g.1 entries) ]) ≡ Ok frames → All (λ y. y.at < 2 ^ 16) frames
+          → ◌≡◌ {A = Result (List MapFrame) ℕ} (elim f [ None ↦ Err place | Some g ↦ with_first g.0 (frames_from b (place + 1) (Some g.0.at) g.1 entries) ]) (Ok frames) → All (λ y. y.at < 2 ^ 16) frames
       by None is later e = absurd cc
       by (Some g) is later e = rest_low g.0 (frames_from b (place + 1) (Some g.0.at) g.1 entries) frames (frame_low last before x g is) (λ rest r. later (Some g.0.at) g.1 rest r) e
 

@@ -125,31 +125,32 @@ fn map_of<'a>(
     }
 }
 
-/// The type check of a method's code: whether its instructions have type states, and if not, the first that offends. A stack map of
-/// which an entry is bad offends at 0.
-///
-/// It takes memory for the instructions, for what the stack map lists, for the handlers and for one type state.
-pub(crate) fn check_code(
+/// The same as `check_code` of a code with these instructions.
+fn check_instrs<'a>(
     alloc: Global,
-    hierarchy: &Hierarchy,
-    tree: &ClassFile,
-    member: &Member,
-    code: &Code,
+    hierarchy: &'a Hierarchy,
+    tree: &'a ClassFile,
+    member: &'a Member,
+    code: &'a Code,
+    instrs: &'a [(u16, Instr)],
 ) -> Result<(), Halt>
-    requires { is_code tree.now.major tree.now.pool code.now ≡ true }
+    requires listed { instrs_in code.now ≡ instrs.now }
+    requires some { 0 < length instrs.now }
+    requires rising { IsRising instrs.now }
+    requires ordered { IsNonDecreasingBy (λ p. p.0) instrs.now }
+    requires offsets { All (λ p. p.0 < 2 ^ 16) instrs.now }
     ensures { IsDecidedIn (is_bad_map (map_in tree.now member.now code.now)) (checked hierarchy.now tree.now member.now code.now) result }
 {
-    let instrs = instrs_of(alloc, tree, code)?;
     let this = this_refs(alloc, tree, member)?;
     let parameters = parameter_refs(alloc, tree, member)?;
     let first = first_listed(alloc, this.as_ref(), parameters.as_slice())?;
-    let map = match map_of(alloc, tree, code, first.as_slice(), instrs.as_slice()) {
+    let map = match map_of(alloc, tree, code, first.as_slice(), instrs) {
         Ok(map) => map,
         Err(MapFault::Bad(_)) => return Err(Halt::Offends(0)),
         Err(MapFault::Memory) => return Err(Halt::Memory),
     };
     let checker = Checker {
-        method: method_of(alloc, hierarchy, tree, member, code, instrs.as_slice())?,
+        method: method_of(alloc, hierarchy, tree, member, code, instrs)?,
         this,
         parameters,
         max_locals: code.max_locals,
@@ -157,4 +158,22 @@ pub(crate) fn check_code(
         handlers: code.handlers.as_slice(),
     };
     decide(alloc, &checker)
+}
+
+/// The type check of a method's code: whether its instructions have type states, and if not, the first that offends. A stack map of
+/// which an entry is bad offends at 0.
+///
+/// It takes memory for the instructions, for what the stack map lists, for the handlers and for one type state.
+pub(crate) fn check_code<'a>(
+    alloc: Global,
+    hierarchy: &'a Hierarchy,
+    tree: &'a ClassFile,
+    member: &'a Member,
+    code: &'a Code,
+) -> Result<(), Halt>
+    requires { is_code tree.now.major tree.now.pool code.now ≡ true }
+    ensures { IsDecidedIn (is_bad_map (map_in tree.now member.now code.now)) (checked hierarchy.now tree.now member.now code.now) result }
+{
+    let instrs = instrs_of(alloc, tree, code)?;
+    check_instrs(alloc, hierarchy, tree, member, code, instrs.as_slice())
 }
