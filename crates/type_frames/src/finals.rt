@@ -18,14 +18,14 @@ pub fn is_final(hierarchy: &Hierarchy, name: &Units) -> bool
 }
 
 /// Whether a method has this name and this descriptor.
-fn is_signature(method: &Signature, name: &Units, desc: &Units) -> bool
+fn is_signature(method: &Signature, name: &[u16], desc: &[u16]) -> bool
     ensures { result ≡ has_signature name.now desc.now method.now }
 {
-    method.name.as_slice() == name.as_slice() && method.desc.as_slice() == desc.as_slice()
+    method.name.as_slice() == name && method.desc.as_slice() == desc
 }
 
 /// Whether one of these methods has this name and this descriptor.
-fn is_listed(methods: &[Signature], name: &Units, desc: &Units) -> bool
+fn is_listed(methods: &[Signature], name: &[u16], desc: &[u16]) -> bool
     ensures { result ≡ list_any (has_signature name.now desc.now) methods.now }
 {
     methods
@@ -34,7 +34,7 @@ fn is_listed(methods: &[Signature], name: &Units, desc: &Units) -> bool
 }
 
 /// Whether a known class has a final method of this name and this descriptor.
-fn has_final(hierarchy: &Hierarchy, class: &[u16], name: &Units, desc: &Units) -> bool
+fn has_final(hierarchy: &Hierarchy, class: &[u16], name: &[u16], desc: &[u16]) -> bool
     ensures { result ≡ class_has_final hierarchy.now name.now desc.now class.now }
 {
     match hierarchy.named(class) {
@@ -46,7 +46,7 @@ fn has_final(hierarchy: &Hierarchy, class: &[u16], name: &Units, desc: &Units) -
 /// Whether a class or one above it has a final method of this name and this descriptor. The walk goes over at most as many
 /// superclasses as there are classes.
 #[tactic(auto, using(crate::proofs::Walks::chain_more, crate::proofs::Walks::chain_found, crate::proofs::Walks::chain_over, crate::proofs::Walks::chain_last))]
-pub fn has_final_above(hierarchy: &Hierarchy, class: &Units, name: &Units, desc: &Units) -> bool
+pub fn has_final_above(hierarchy: &Hierarchy, class: &Units, name: &[u16], desc: &[u16]) -> bool
     ensures { result ≡ list_any (class_has_final hierarchy.now name.now desc.now) (chain hierarchy.now class.now) }
 {
     let mut above = class.as_slice();

@@ -10,7 +10,7 @@ ghost use Rattle.type_states.specs.Answers.{Leaves};
 ghost use Rattle.type_verify.specs.Checkers.{checked_of, IsReady};
 ghost use Rattle.type_verify.specs.Walking.{are_handled as all_handle, are_accepted as all_accept, entered_first, entered_later, entered, passed, offset_in_code as offset_of};
 
-use crate::falls_through;
+use crate::flow::falls_through;
 use class_code::{Instr, LookupSwitch, TableSwitch};
 use class_tree::Handler;
 use handler_ranges::Covering;

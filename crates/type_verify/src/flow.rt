@@ -20,7 +20,7 @@ fn simple_falls(simple: Simple) -> bool
 }
 
 /// Whether the next instruction may follow.
-pub fn falls_through(instr: &Instr) -> bool
+pub(crate) fn falls_through(instr: &Instr) -> bool
     ensures { result ≡ goes_on instr.now }
 {
     match instr {

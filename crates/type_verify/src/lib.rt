@@ -6,6 +6,7 @@ mod begin;
 mod checker;
 mod code;
 mod flow;
+mod verify;
 mod walk;
 
-pub use flow::falls_through;
+pub use verify::VerifyFault;
