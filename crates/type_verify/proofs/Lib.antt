@@ -5,3 +5,4 @@ pub mod Offsets
 pub mod Named
 pub mod Checked
 pub mod Beginning
+pub mod Judged

@@ -68,3 +68,77 @@ fn offends_at_once(hierarchy: &Hierarchy, tree: &ClassFile, place: usize, member
 {
     overrides_final(hierarchy, tree, member) || extends_final(hierarchy, tree, place)
 }
+
+/// The type check of a method that offends nothing at once.
+#[tactic(auto, using(type_frames::proofs::Formed::method_code, crate::proofs::Judged::body_judged, crate::proofs::Judged::none_judged))]
+fn judge_body<'a>(
+    alloc: Global,
+    hierarchy: &'a Hierarchy,
+    tree: &'a ClassFile,
+    place: usize,
+    member: &'a Member,
+) -> Result<(), Halt>
+    requires there { slice_get tree.now.methods place ≡ Some member.now }
+    requires free { offends hierarchy.now tree.now place member.now ≡ false }
+    ensures { IsJudged hierarchy.now tree.now place member.now result }
+{
+    let _ = &tree.methods;
+    match member.code() {
+        Some(code) => check_code(alloc, hierarchy, tree, member, code),
+        None => Ok(()),
+    }
+}
+
+/// The type check of a method.
+#[tactic(auto, using(crate::proofs::Judged::offending_judged))]
+fn judge<'a>(
+    alloc: Global,
+    hierarchy: &'a Hierarchy,
+    tree: &'a ClassFile,
+    place: usize,
+    member: &'a Member,
+) -> Result<(), Halt>
+    requires { slice_get tree.now.methods place ≡ Some member.now }
+    ensures { IsJudged hierarchy.now tree.now place member.now result }
+{
+    if offends_at_once(hierarchy, tree, place, member) {
+        return Err(Halt::Offends(0));
+    }
+    judge_body(alloc, hierarchy, tree, place, member)
+}
+
+/// Whether a method passes its type check, by its place among the class's methods, and if not, where it fails first.
+///
+/// A method without code passes, unless it overrides a final one, or is the first of a class whose superclass is final. Each
+/// instruction is looked at once. It takes memory for the instructions, for what the stack map lists, for the handlers and for one
+/// type state.
+pub fn check_method<'a>(
+    alloc: Global,
+    hierarchy: &'a Hierarchy,
+    tree: &'a ClassFile,
+    method: usize,
+) -> Result<(), VerifyFault>
+    requires { method < length tree.now.methods }
+    ensures { IsVerdict hierarchy.now tree.now method result }
+{
+    let methods = tree.methods.as_slice();
+    match judge(alloc, hierarchy, tree, method, &methods[method]) {
+        Ok(()) => Ok(()),
+        Err(Halt::Offends(offset)) => Err(VerifyFault::Fails { method, offset }),
+        Err(Halt::Memory) => Err(VerifyFault::Memory),
+    }
+}
+
+/// Whether a class passes its type check, and if not, which method is the first that fails, in the order of the file, and where.
+pub fn check_class<'a>(
+    alloc: Global,
+    hierarchy: &'a Hierarchy,
+    tree: &'a ClassFile,
+) -> Result<(), VerifyFault>
+    ensures { IsClassVerdict hierarchy.now tree.now result }
+{
+    for method in 0..tree.methods.len() {
+        check_method(alloc, hierarchy, tree, method)?;
+    }
+    Ok(())
+}
