@@ -1,6 +1,6 @@
 -- The array class over a class, by its name.
 use Rattle.std.proofs.Common.{◌≡◌, ℕ, ◌∙◌, Bool, true, false, cond, [], ◌∷◌, ◌++◌, Some, refl, sym, ap, arith}
-use Rattle.std.specs.Prelude.{bytes_eq, ◌==◌, ◌||◌, codes}
+use Rattle.std.specs.Prelude.{bytes_eq, ◌||◌, codes}
 use Rattle.std.proofs.lemmas.Slice.Eq.{bytes_eq-Decides}
 use Rattle.std.proofs.lemmas.Bool.{eqb-true}
 use Rattle.jv_names.specs.Names.{Name}

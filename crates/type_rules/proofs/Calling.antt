@@ -1,5 +1,5 @@
 -- Calls, step by step: the arguments, the object below them, and the result.
-use Rattle.std.proofs.Common.{◌≡◌, ℕ, ◌∙◌, Bool, true, false, List, [], ◌∷◌, ◌++◌, Option, Some, None, refl, sym, ap, subst}
+use Rattle.std.proofs.Common.{◌≡◌, ℕ, ◌∙◌, Bool, true, false, List, [], ◌∷◌, ◌++◌, Option, Some, None, refl, ap, subst}
 use Rattle.std.specs.Prelude.{if◌then◌else◌}
 use Rattle.ti_ids.specs.Maybe.{◌>>=◌}
 use Rattle.type_frames.specs.declared.vtype.VType.{VType}

@@ -1,7 +1,6 @@
 -- The lengths that `multianewarray` takes.
-use Rattle.std.proofs.Common.{◌≡◌, ℕ, suc, ◌+◌, ◌-◌, ◌<◌, ◌≤◌, ◌∙◌, List, replicate, Option, Some, None, sym, ap, arith}
+use Rattle.std.proofs.Common.{◌≡◌, ℕ, suc, ◌+◌, ◌-◌, ◌<◌, ◌≤◌, ◌∙◌, replicate, Option, Some, None, sym, ap, arith}
 use Rattle.ti_ids.specs.Maybe.{◌>>=◌}
-use Rattle.type_frames.specs.declared.vtype.VType.{VType}
 use Rattle.type_frames.specs.declared.vtype.VType.TheVariants.{Integer}
 use Rattle.type_frames.specs.Hierarchies.{Known}
 use Rattle.type_frames.specs.States.{State, taken, all_taken}

@@ -1,9 +1,9 @@
 -- Of instructions whose offsets rise, a search by halving finds the one at an offset.
-use Rattle.std.proofs.Common.{◌≡◌, ◌≢◌, ℕ, zero, suc, ◌+◌, ◌<◌, ◌≤◌, ◌⊎◌, inl, inr, true, false, eqb, ltb, eq-eqb, List, [], ◌∷◌, length, map, Option, Some, None, Result, Ok, Err, refl, sym, ap, ◌∙◌, add-one, arith}
-use Rattle.std.specs.Prelude.{slice_index_or, slice_get, find}
+use Rattle.std.proofs.Common.{◌≡◌, ◌≢◌, ℕ, zero, suc, ◌<◌, ◌≤◌, ◌⊎◌, inl, inr, eqb, eq-eqb, List, [], ◌∷◌, length, map, Some, None, Err, refl, ap, arith}
+use Rattle.std.specs.Prelude.{slice_index_or, find}
 use Rattle.std.specs.Option.{option_map}
 use Rattle.std.specs.List.{HoldsAt}
-use Rattle.std.specs.List.Sorted.{IsSearchInRange, IsBinarySearchResult, IsStrictlyIncreasing}
+use Rattle.std.specs.List.Sorted.{IsBinarySearchResult}
 use Rattle.std.specs.Ordering.{nat_cmp, ordering_index}
 use Rattle.std.specs.declared.cmp.Ordering.TheVariants.{Less, Equal, Greater}
 use Rattle.std.proofs.lemmas.Bool.{ne_eqb, cases_lt}
@@ -11,8 +11,6 @@ use Rattle.std.proofs.lemmas.Bool.Decides.{nat_tests}
 use Rattle.std.proofs.lemmas.List.{get_or-map, length-map}
 use Rattle.std.proofs.lemmas.List.Kept.{AllPairs-from_increasing}
 use Rattle.class_code.specs.declared.instr.Instr.{Instr}
-use Rattle.class_code.specs.declared.instr.Instr.TheVariants as instr
-use Rattle.class_code.specs.declared.instr.Simple.TheVariants as simple
 use Rattle.class_code.specs.Listing.{IsRising}
 use Rattle.type_rules.specs.Methods.{instr_found as instr_at}
 

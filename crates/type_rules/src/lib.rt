@@ -14,6 +14,8 @@ mod objects;
 mod returns;
 mod rules;
 mod stack;
+#[cfg(test)]
+mod tests;
 
 pub use method::Method;
 pub use rules::rule;

@@ -1,5 +1,5 @@
 -- The closure gives an instruction's offset.
-use Rattle.std.proofs.Common.{rules, sym, ap, ◌∙◌}
+use Rattle.std.proofs.Common.{rules, sym}
 use Rattle.std.proofs.lemmas.List.Sorted.{answers_always}
 use Rattle.type_rules.proofs.Lookups.{instr_found, none_found}
 use Rattle.type_rules.proofs.method.Method.instr_at.Goals as goal
