@@ -1,4 +1,4 @@
-ghost use Rattle.std.specs.Prelude.{◌<◌, ◌^◌, All, IfOk};
+ghost use Rattle.std.specs.Prelude.{◌≡◌, ◌<◌, ◌^◌, All, IfOk, length};
 ghost use Rattle.std.specs.List.Sorted.{IsNonDecreasingBy};
 
 use crate::{MapBounds, State, StackMap};
@@ -91,6 +91,18 @@ fn refuses_a_map(rt: HostRuntime) -> Result<(), Fail> {
     Ok(())
 }
 
+/// The state that is given at an offset, or one with two nulls and a `this` that is not initialized.
+fn loaded_at<'a>(alloc: Global, map: &StackMap<'a>, at: u16) -> Result<State<'a>, AllocError>
+    requires { All (λ f. length f.locals ≡ 2) map.now }
+{
+    let locals = Vec::from_slice(alloc, &[VTypeRef::Null, VTypeRef::Null])?;
+    let mut state = State::new(alloc, locals, true);
+    if let Some(place) = map.find(at) {
+        map.load(alloc, place, &mut state)?;
+    }
+    Ok(state)
+}
+
 /// A state becomes one that has a long on its stack.
 #[test]
 fn loads_a_state(rt: HostRuntime) -> Result<(), Fail> {
@@ -109,11 +121,7 @@ fn loads_a_state(rt: HostRuntime) -> Result<(), Fail> {
     let Ok(map) = StackMap::read(alloc, bounds, &[THIS], &entries) else {
         return Err(AllocError.into());
     };
-    let locals = Vec::from_slice(alloc, &[VTypeRef::Null, VTypeRef::Null])?;
-    let mut state = State::new(alloc, locals, true);
-    if let Some(place) = map.find(1) {
-        map.load(alloc, place, &mut state)?;
-    }
+    let state = loaded_at(alloc, &map, 1)?;
     assert!(rt; state.has_long());
     assert!(rt; !state.is_this_uninit());
     assert!(rt; matches!(state.local(0), Some(VTypeRef::Object(_))));
