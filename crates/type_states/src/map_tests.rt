@@ -1,7 +1,7 @@
 ghost use Rattle.std.specs.Prelude.{◌≡◌, ◌<◌, ◌^◌, All, IfOk, length};
 ghost use Rattle.std.specs.List.Sorted.{IsNonDecreasingBy};
 
-use crate::{MapBounds, State, StackMap};
+use crate::{MapBounds, StackMap, State};
 use class_code::{Instr, decode};
 use class_tree::{Appended, Chopped, ShortDelta, StackMapFrame, VerificationType};
 use std::alloc::{AllocError, Global};
@@ -56,8 +56,14 @@ fn reads_a_map(rt: HostRuntime) -> Result<(), Fail> {
         return Err(AllocError.into());
     };
     let known = Hierarchy::new(alloc);
-    let with_int = state(alloc, &[THIS, VTypeRef::Long, VTypeRef::Top, VTypeRef::Integer])?;
-    let with_null = state(alloc, &[THIS, VTypeRef::Long, VTypeRef::Top, VTypeRef::Null])?;
+    let with_int = state(
+        alloc,
+        &[THIS, VTypeRef::Long, VTypeRef::Top, VTypeRef::Integer],
+    )?;
+    let with_null = state(
+        alloc,
+        &[THIS, VTypeRef::Long, VTypeRef::Top, VTypeRef::Null],
+    )?;
     assert_eq!(rt; map.find(1), Some(1));
     assert_eq!(rt; map.find(3), None);
     assert!(rt; map.accepts(&known, 0, &with_int));
