@@ -6,3 +6,6 @@ pub mod Mapping
 pub mod Found
 pub mod Steps
 pub mod Loads
+pub mod Changes
+pub mod Taking
+pub mod Stores

@@ -19,6 +19,8 @@ mod operands;
 mod reading;
 mod state;
 mod stop;
+#[cfg(test)]
+mod tests;
 
 pub use kinds::{is_kind, is_long, is_reference, is_word};
 pub use maps::StackMap;

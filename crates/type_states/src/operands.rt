@@ -47,6 +47,7 @@ impl<'a> State<'a> {
     }
 
     /// Takes these, the first one from the top.
+    #[tactic(auto, using(crate::proofs::Taking::taken_more, crate::proofs::Taking::taken_not, crate::proofs::Taking::taken_over))]
     pub fn take_all(&mut self, hierarchy: &Hierarchy, types: &[VTypeRef<'_>]) -> Result<(), Stop>
         ensures { Leaves result self.new (all_taken hierarchy.now (map type_seen types.now) self.old) }
     {
@@ -118,6 +119,7 @@ impl<'a> State<'a> {
     }
 
     /// Puts these, the first one first.
+    #[tactic(auto, using(crate::proofs::Taking::put_more, crate::proofs::Taking::put_not, crate::proofs::Taking::put_over))]
     pub fn put_all(&mut self, room: u16, types: &[VTypeRef<'a>]) -> Result<(), Stop>
         ensures { Leaves result self.new (all_put room (map type_seen types.now) self.old) }
     {
