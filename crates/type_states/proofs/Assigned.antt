@@ -1,7 +1,7 @@
 -- Types that are compared with listed ones, word by word, from the last one on.
-use Rattle.std.proofs.Common.{◌≡◌, ℕ, zero, suc, ◌∙◌, ◌-◌, ◌+◌, ◌<◌, ◌≤◌, ◌^◌, Bool, true, false, List, [], ◌∷◌, ◌++◌, length, take, drop, get_or, replicate, reverse, refl, sym, ap, subst, arith, append_assoc, length-append, add-one}
-use Rattle.std.specs.Prelude.{◌&&◌, not, ◌==◌, min}
-use Rattle.std.proofs.lemmas.List.{append-nil, take-append-drop, length-take-le, length-drop, take_more, take_all, reverse-append, length-replicate}
+use Rattle.std.proofs.Common.{◌≡◌, ℕ, suc, ◌∙◌, ◌-◌, ◌+◌, ◌<◌, ◌≤◌, ◌^◌, Bool, true, false, List, [], ◌∷◌, ◌++◌, length, take, drop, get_or, replicate, reverse, refl, sym, ap, subst, arith, append_assoc, length-append}
+use Rattle.std.specs.Prelude.{◌&&◌, not}
+use Rattle.std.proofs.lemmas.List.{take-append-drop, length-take-le, length-drop, take_more, take_all, reverse-append, length-replicate}
 use Rattle.type_frames.specs.declared.vtype.VType.{VType}
 use Rattle.type_frames.specs.declared.vtype.VType.TheVariants as vtype
 use Rattle.type_frames.specs.Types.{type_words, expanded, is_long}

@@ -7,6 +7,5 @@ pub mod Assigned
 pub mod Begun
 pub mod Mapping
 pub mod Found
-pub mod Putting
 pub mod Steps
 pub mod Loads

@@ -1,8 +1,8 @@
 -- A state that becomes one of a stack map.
-use Rattle.std.proofs.Common.{◌≡◌, ℕ, zero, suc, ◌∙◌, ◌-◌, ◌+◌, ◌<◌, ◌≤◌, ◌^◌, Bool, List, [], ◌∷◌, ◌++◌, length, take, drop, map, get_or, set, replicate, true, false, reverse, Option, Some, None, refl, sym, ap, subst, arith, append_assoc}
-use Rattle.std.specs.Prelude.{All, slice_get}
+use Rattle.std.proofs.Common.{◌≡◌, ℕ, ◌∙◌, ◌+◌, ◌<◌, ◌≤◌, ◌^◌, Bool, List, [], ◌∷◌, ◌++◌, length, take, drop, map, get_or, set, replicate, true, false, reverse, Option, Some, sym, ap, subst, arith, append_assoc}
+use Rattle.std.specs.Prelude.{All}
 use Rattle.std.specs.List.{list_any}
-use Rattle.std.proofs.lemmas.List.{length-map, get_or-map, drop-replicate, drop-set, drop-set-add, drop_more, take_more, map_push, length-replicate, map-set, length-set}
+use Rattle.std.proofs.lemmas.List.{length-map, get_or-map, drop-replicate, drop-set, drop-set-add, drop_more, take_more, map_push, map-set}
 use Rattle.std.proofs.lemmas.Option.{slice_get-get_or}
 use Rattle.ti_ids.specs.Maybe.{◌>>=◌}
 use Rattle.class_tree.specs.declared.pool.Const.{Const}
@@ -18,7 +18,7 @@ use Rattle.type_frames.specs.TypeChecks.{state_of}
 use Rattle.type_frames.specs.Seen.{type_seen}
 use Rattle.type_states.specs.declared.entry.Entry.{Entry}
 use Rattle.type_states.specs.Holding.{state_held, counts_words}
-use Rattle.type_states.specs.Lists.{list_at, IsLast}
+use Rattle.type_states.specs.Lists.{list_at}
 use Rattle.type_states.specs.Maps.{frame_held, frames_held, IsEntry, IsMap}
 use Rattle.type_states.specs.Given.{given_at}
 use Rattle.type_states.specs.Loading.{IsStack}

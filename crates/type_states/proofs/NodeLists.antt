@@ -1,12 +1,12 @@
 -- Nodes, each of which makes one more list.
-use Rattle.std.proofs.Common.{◌≡◌, ℕ, zero, suc, ◌∙◌, ◌-◌, ◌+◌, ◌<◌, ◌≤◌, Bool, List, [], ◌∷◌, ◌++◌, length, get_or, refl, sym, ap, subst, arith, append_assoc, length-append, add-one, below_more}
+use Rattle.std.proofs.Common.{◌≡◌, ℕ, ◌∙◌, ◌-◌, ◌+◌, ◌<◌, List, [], ◌∷◌, ◌++◌, length, get_or, refl, sym, ap, subst, arith, below_more}
 use Rattle.std.specs.List.{list_any}
 use Rattle.std.proofs.lemmas.List.{get_or_append_left, get_or_push, length_push}
 use Rattle.type_frames.specs.declared.vtype.VType.{VType}
-use Rattle.type_frames.specs.Types.{type_words, expanded, is_uninit_this}
+use Rattle.type_frames.specs.Types.{is_uninit_this}
 use Rattle.type_frames.specs.Seen.{type_seen}
 use Rattle.type_states.specs.declared.node.Node.{Node}
-use Rattle.type_states.specs.Lists.{list_at, words_counted, IsLast, IsGrown, IsPut}
+use Rattle.type_states.specs.Lists.{list_at, words_counted, IsPut}
 use Rattle.type_states.specs.Nodes.{with_node, lists_from, lists_of, IsOver, IsNode, AreNodes}
 
 abbrev Lists : Type 0

@@ -1,19 +1,19 @@
 -- Entries of a stack map that are kept one after the other.
-use Rattle.std.proofs.Common.{◌≡◌, ℕ, zero, suc, ◌∙◌, ◌-◌, ◌+◌, ◌<◌, ◌≤◌, List, [], ◌∷◌, ◌++◌, length, drop, map, get_or, Option, Some, None, Result, Ok, Err, refl, sym, ap, subst, arith, below_more}
-use Rattle.std.specs.Prelude.{All, option_map}
-use Rattle.std.proofs.lemmas.List.{length-map, get_or_append_left, get_or_push, length_push, map_push}
+use Rattle.std.proofs.Common.{◌≡◌, ℕ, ◌∙◌, ◌+◌, ◌<◌, ◌≤◌, List, [], ◌∷◌, ◌++◌, length, drop, map, get_or, Option, Some, None, refl, sym, ap, subst, arith, below_more}
+use Rattle.std.specs.Prelude.{All}
+use Rattle.std.proofs.lemmas.List.{get_or_append_left, get_or_push, length_push, map_push}
 use Rattle.std.proofs.lemmas.List.Elements.{All-push, All-weaker, All-head, All-tail, All-map}
 use Rattle.class_tree.specs.declared.pool.Const.{Const}
 use Rattle.class_tree.specs.declared.frames.StackMapFrame.{StackMapFrame}
 use Rattle.type_frames.specs.declared.vtype.VType.{VType}
 use Rattle.type_frames.specs.declared.frame.MapFrame.{MapFrame}
 use Rattle.type_frames.specs.Types.{expanded, is_uninit_this}
-use Rattle.type_frames.specs.StackMaps.{Bounds, delta, offset_after, stack_after, filled, frame_after, frames_from}
+use Rattle.type_frames.specs.StackMaps.{Bounds, offset_after, stack_after, filled, frames_from}
 use Rattle.std.specs.List.{list_any}
 use Rattle.type_states.specs.declared.entry.Entry.{Entry}
 use Rattle.type_states.specs.Lists.{list_at, IsGrown}
 use Rattle.type_states.specs.Maps.{frame_held, frames_held, IsEntry, IsMap, Rises}
-use Rattle.type_states.specs.Reading.{found_with, IsFound, IsLatest}
+use Rattle.type_states.specs.Reading.{IsFound, IsLatest}
 use Rattle.type_states.proofs.Assigned.{filled_length}
 use Rattle.type_states.proofs.Mapping.{with_all, map_more}
 

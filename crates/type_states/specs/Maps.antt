@@ -1,14 +1,11 @@
 -- How the code holds the states of a stack map: each entry as it stands in the class file, and where the list of its local variables is.
-use Rattle.std.specs.Prelude.{◌≡◌, ℕ, ◌<◌, ◌≤◌, List, Option, Some, None, All, map, option_map, length, slice_get, slice_index, Result, Ok, Err}
+use Rattle.std.specs.Prelude.{ℕ, ◌<◌, ◌≤◌, List, All, map, length, slice_index}
 use Rattle.std.specs.List.{list_any}
-use Rattle.ti_ids.specs.Maybe.{◌>>=◌}
 use Rattle.class_tree.specs.declared.pool.Const.{Const}
 use Rattle.type_frames.specs.declared.vtype.VType.{VType}
 use Rattle.type_frames.specs.declared.frame.MapFrame.{MapFrame}
 use Rattle.type_frames.specs.Types.{expanded, is_uninit_this}
-use Rattle.type_frames.specs.States.{State}
 use Rattle.type_frames.specs.StackMaps.{stack_after, filled}
-use Rattle.type_frames.specs.TypeChecks.{state_of}
 use Rattle.type_states.specs.declared.entry.Entry.{Entry}
 use Rattle.type_states.specs.Lists.{list_at}
 

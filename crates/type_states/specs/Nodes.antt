@@ -1,8 +1,8 @@
 -- How the code holds lists of types that share what they begin with: each node is a list that is longer by one than an older one.
-use Rattle.std.specs.Prelude.{◌≡◌, ℕ, suc, ◌+◌, ◌<◌, ◌≤◌, min, List, [], ◌∷◌, ◌++◌, All, length, slice_index_or}
+use Rattle.std.specs.Prelude.{◌≡◌, ℕ, ◌+◌, ◌<◌, List, [], ◌∷◌, ◌++◌, length, slice_index_or}
 use Rattle.std.specs.List.{list_any}
 use Rattle.type_frames.specs.declared.vtype.VType.{VType}
-use Rattle.type_frames.specs.Types.{expanded, is_uninit_this}
+use Rattle.type_frames.specs.Types.{is_uninit_this}
 use Rattle.type_frames.specs.Seen.{type_seen}
 use Rattle.type_states.specs.declared.node.Node.{Node}
 use Rattle.type_states.specs.Lists.{list_at, IsLast, words_counted}

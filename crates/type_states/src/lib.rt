@@ -9,9 +9,9 @@ mod accepting;
 mod entry;
 mod kinds;
 mod loading;
+mod locals;
 #[cfg(test)]
 mod map_tests;
-mod locals;
 mod maps;
 mod node;
 mod nodes;

@@ -1,7 +1,7 @@
-ghost use Rattle.std.specs.Prelude.{◌<◌, ◌^◌, All, IfOk};
+ghost use Rattle.std.specs.Prelude.{◌≡◌, ◌<◌, ◌^◌, All, IfOk, length};
 ghost use Rattle.std.specs.List.Sorted.{IsNonDecreasingBy};
 
-use crate::{MapBounds, State, StackMap};
+use crate::{MapBounds, StackMap, State};
 use class_code::{Instr, decode};
 use class_tree::{Appended, Chopped, ShortDelta, StackMapFrame, VerificationType};
 use std::alloc::{AllocError, Global};
@@ -56,8 +56,14 @@ fn reads_a_map(rt: HostRuntime) -> Result<(), Fail> {
         return Err(AllocError.into());
     };
     let known = Hierarchy::new(alloc);
-    let with_int = state(alloc, &[THIS, VTypeRef::Long, VTypeRef::Top, VTypeRef::Integer])?;
-    let with_null = state(alloc, &[THIS, VTypeRef::Long, VTypeRef::Top, VTypeRef::Null])?;
+    let with_int = state(
+        alloc,
+        &[THIS, VTypeRef::Long, VTypeRef::Top, VTypeRef::Integer],
+    )?;
+    let with_null = state(
+        alloc,
+        &[THIS, VTypeRef::Long, VTypeRef::Top, VTypeRef::Null],
+    )?;
     assert_eq!(rt; map.find(1), Some(1));
     assert_eq!(rt; map.find(3), None);
     assert!(rt; map.accepts(&known, 0, &with_int));
@@ -91,6 +97,18 @@ fn refuses_a_map(rt: HostRuntime) -> Result<(), Fail> {
     Ok(())
 }
 
+/// The state that is given at an offset, or one with two nulls and a `this` that is not initialized.
+fn loaded_at<'a>(alloc: Global, map: &StackMap<'a>, at: u16) -> Result<State<'a>, AllocError>
+    requires { All (λ f. length f.locals ≡ 2) map.now }
+{
+    let locals = Vec::from_slice(alloc, &[VTypeRef::Null, VTypeRef::Null])?;
+    let mut state = State::new(alloc, locals, true);
+    if let Some(place) = map.find(at) {
+        map.load(alloc, place, &mut state)?;
+    }
+    Ok(state)
+}
+
 /// A state becomes one that has a long on its stack.
 #[test]
 fn loads_a_state(rt: HostRuntime) -> Result<(), Fail> {
@@ -109,11 +127,7 @@ fn loads_a_state(rt: HostRuntime) -> Result<(), Fail> {
     let Ok(map) = StackMap::read(alloc, bounds, &[THIS], &entries) else {
         return Err(AllocError.into());
     };
-    let locals = Vec::from_slice(alloc, &[VTypeRef::Null, VTypeRef::Null])?;
-    let mut state = State::new(alloc, locals, true);
-    if let Some(place) = map.find(1) {
-        map.load(alloc, place, &mut state)?;
-    }
+    let state = loaded_at(alloc, &map, 1)?;
     assert!(rt; state.has_long());
     assert!(rt; !state.is_this_uninit());
     assert!(rt; matches!(state.local(0), Some(VTypeRef::Object(_))));

@@ -1,9 +1,8 @@
-use Rattle.std.proofs.Common.{◌≡◌, ℕ, refl, List, ◌-◌, ◌<◌, ◌≤◌, ◌∙◌, Bool, false, true, sym, ap, length, map, reverse, get_or, nat_eq, rules, arith}
+use Rattle.std.proofs.Common.{◌≡◌, ℕ, refl, List, ◌-◌, ◌<◌, ◌∙◌, false, sym, ap, length, map, reverse, get_or, nat_eq, arith}
 use Rattle.std.proofs.lemmas.List.{length-map, get_or-map}
 use Rattle.std.proofs.lemmas.Bool.Decides.{nat_tests}
 use Rattle.class_tree.specs.declared.frames.VerificationType.{VerificationType}
 use Rattle.class_tree.specs.declared.pool.Const.{Const}
-use Rattle.type_frames.specs.Types.{type_words}
 use Rattle.type_frames.specs.Assignable.{are_words_assignable}
 use Rattle.type_frames.specs.Hierarchies.{Known}
 use Rattle.type_frames.specs.StackMaps.{type_listed, types_listed}
@@ -12,7 +11,7 @@ use Rattle.type_frames.specs.declared.seen.VTypeRef.{VTypeRef}
 use Rattle.type_frames.specs.declared.vtype.VType.{VType}
 use Rattle.type_frames.specs.declared.vtype.VType.TheVariants as vtype
 use Rattle.type_states.proofs.Words.{map_reverse}
-use Rattle.type_states.proofs.Assigned.{Compared, compare_begun, second_on, second_failed, none_left, first_on, first_failed, over_none, over_some}
+use Rattle.type_states.proofs.Assigned.{compare_begun, second_on, second_failed, none_left, first_on, first_failed, over_none, over_some}
 use Rattle.type_states.proofs.accepting.listed_accept.Goals as goal
 
 turned : (h : Known) (types : List VTypeRef) (ofs : List VType) → are_words_assignable h (reverse (map type_seen types)) (reverse ofs) ≡ are_words_assignable h (map type_seen (reverse types)) (reverse ofs)

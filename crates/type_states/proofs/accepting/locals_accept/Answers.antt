@@ -1,4 +1,4 @@
-use Rattle.std.proofs.Common.{◌≡◌, ◌∙◌, sym, length, map, rules, arith}
+use Rattle.std.proofs.Common.{◌≡◌, ◌∙◌, sym, map, rules}
 use Rattle.std.proofs.lemmas.List.{length-map}
 use Rattle.type_frames.specs.Seen.{type_seen}
 use Rattle.type_frames.specs.StackMaps.{filled}

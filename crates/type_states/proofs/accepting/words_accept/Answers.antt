@@ -1,6 +1,5 @@
-use Rattle.std.proofs.Common.{◌≡◌, ◌-◌, ◌<◌, ◌∙◌, false, true, sym, ap, length, map, rules, arith}
+use Rattle.std.proofs.Common.{◌-◌, ◌<◌, ◌∙◌, sym, ap, length, map, arith}
 use Rattle.std.proofs.lemmas.List.{length-map, get_or-map}
-use Rattle.type_frames.specs.Types.{type_words}
 use Rattle.type_frames.specs.Seen.{type_seen}
 use Rattle.type_frames.specs.declared.vtype.VType.TheVariants as vtype
 use Rattle.type_states.proofs.Assigned.{walk_begun, walk_fits, walk_on, walk_failed, some_words}

@@ -1,4 +1,4 @@
-use Rattle.std.proofs.Common.{◌≡◌, ◌<◌, ◌≤◌, ◌-◌, length}
+use Rattle.std.proofs.Common.{◌≡◌, ◌<◌, ◌-◌, length}
 use Rattle.type_states.specs.Lists.{list_at, without_last}
 use Rattle.type_states.proofs.reading.chopped.Given as goal
 

@@ -1,5 +1,4 @@
 use Rattle.std.proofs.Common.{◌≡◌, ◌∙◌, ◌+◌, List, [], ◌∷◌, ◌++◌, Option, Some, sym, ap, subst, drop}
-use Rattle.type_frames.specs.declared.frame.MapFrame.{MapFrame}
 use Rattle.type_frames.specs.StackMaps.{frames_from}
 use Rattle.type_states.specs.declared.entry.Entry.{Entry}
 use Rattle.type_states.specs.Lists.{list_at}
