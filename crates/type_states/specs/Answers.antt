@@ -19,6 +19,10 @@ Gives view (Ok x) s given = given ≡ Some (view x, s)
 Gives view (Err Refused) s given = given ≡ None
 Gives view (Err Memory) s given = Unit {0}
 
+-- a state in which a local variable is set
+abbrev pub stored_in : ℕ → VType → State → Option State
+stored_in place t s = stored place t s.locals >>= λ locals. Some (record s { locals = locals })
+
 -- the rules alone refuse, since it takes no memory
 abbrev pub NeverOfMemory : {A : Type 0} → Result A Stop → Type 0
 NeverOfMemory result = IfErr result (λ e. e ≡ Refused)
@@ -28,7 +32,3 @@ abbrev pub OnMemory : {A : Type 0} → Result A Stop → Type 0 → Type 0
 OnMemory (Ok done) held = Unit {0}
 OnMemory (Err Refused) held = Unit {0}
 OnMemory (Err Memory) held = held
-
--- a state in which a local variable is set
-abbrev pub stored_in : ℕ → VType → State → Option State
-stored_in place t s = stored place t s.locals >>= λ locals. Some (record s { locals = locals })
