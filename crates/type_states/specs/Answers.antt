@@ -1,5 +1,5 @@
 -- What a step of the check answers, and the state that it leaves.
-use Rattle.std.specs.Prelude.{◌≡◌, ℕ, Option, None, Some, Result, Ok, Err}
+use Rattle.std.specs.Prelude.{◌≡◌, ℕ, Option, None, Some, Result, Ok, Err, IfErr}
 use Rattle.ti_ids.specs.Maybe.{◌>>=◌}
 use Rattle.type_frames.specs.declared.vtype.VType.{VType}
 use Rattle.type_frames.specs.States.{State}
@@ -28,3 +28,13 @@ Names view (Err Memory) found = Unit {0}
 -- a state in which a local variable is set
 abbrev pub stored_in : ℕ → VType → State → Option State
 stored_in place t s = stored place t s.locals >>= λ locals. Some (record s { locals = locals })
+
+-- the rules alone refuse, since it takes no memory
+abbrev pub NeverOfMemory : {A : Type 0} → Result A Stop → Type 0
+NeverOfMemory result = IfErr result (λ e. e ≡ Refused)
+
+-- what holds where memory ran out
+abbrev pub OnMemory : {A : Type 0} → Result A Stop → Type 0 → Type 0
+OnMemory (Ok done) held = Unit {0}
+OnMemory (Err Refused) held = Unit {0}
+OnMemory (Err Memory) held = held

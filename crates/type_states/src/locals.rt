@@ -6,7 +6,7 @@ ghost use Rattle.type_frames.specs.RulesOfLocals.{without_long_before};
 ghost use Rattle.type_frames.specs.RulesOfFields.{is_uninit_at as uninit_at, topped};
 ghost use Rattle.type_frames.specs.RulesOfCalls.{with_initialized, replaced};
 ghost use Rattle.type_frames.specs.Seen.{name_seen, type_seen};
-ghost use Rattle.type_states.specs.Answers.{Leaves, stored_in};
+ghost use Rattle.type_states.specs.Answers.{Leaves, NeverOfMemory, stored_in};
 
 use crate::kinds::{is_long, is_same_uninit, is_uninit_at, is_uninit_this};
 use crate::{State, Stop};
@@ -56,7 +56,8 @@ impl<'a> State<'a> {
 
     /// Sets the local variable at a place: a long takes the next one too, and a long that this cuts through ends.
     pub fn store(&mut self, place: u16, t: VTypeRef<'a>) -> Result<(), Stop>
-        ensures { Leaves result self.new (stored_in place (type_seen t.entry) self.old) }
+        ensures leaves { Leaves result self.new (stored_in place (type_seen t.entry) self.old) }
+        ensures never { NeverOfMemory result }
     {
         let place = usize::from(place);
         let last = if is_long(t) { place + 1 } else { place };

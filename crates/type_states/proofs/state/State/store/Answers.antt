@@ -12,8 +12,8 @@ use Rattle.type_states.proofs.Stores.{long_stored, word_stored}
 use Rattle.type_states.proofs.state.State.store.Goals as goal
 use Rattle.type_states.proofs.state.State.store.Goals.{then-is_long, else-is_long}
 
-pub returns-then-is_long-2 : goal.returns-then-is_long-2
-returns-then-is_long-2 c =
+pub returns-then-is_long-2-clause-leaves : goal.returns-then-is_long-2-clause-leaves
+returns-then-is_long-2-clause-leaves c =
     let vec = c.self.inside.locals in
     let now = c.end_long_before.new.locals in
     let left : List VType → Option State = λ locals. Some (record { locals = locals; stack = map type_seen (reverse c.self.inside.stack.items); this_uninit = c.self.inside.this_uninit }) in
@@ -26,8 +26,8 @@ returns-then-is_long-2 c =
     ∙ ap (λ (place : ℕ). stored_in place (type_seen c.args.t) (record { locals = map type_seen vec.items; stack = map type_seen (reverse c.self.inside.stack.items); this_uninit = c.self.inside.this_uninit })) (sym c.from-place.ensures)
     ∙ ap (λ (o : Option (List VType)). o >>= left) (long_stored c.from-place.result c.if-is_long.last c.args.t vec.items (with_items vec now).items next (omega (arith, vec.ok.0)) (sym (c.if-is_long-2.ensures)) ended)
 
-pub returns-else-is_long-2 : goal.returns-else-is_long-2
-returns-else-is_long-2 c =
+pub returns-else-is_long-2-clause-leaves : goal.returns-else-is_long-2-clause-leaves
+returns-else-is_long-2-clause-leaves c =
     let vec = c.self.inside.locals in
     let now = c.end_long_before.new.locals in
     let left : List VType → Option State = λ locals. Some (record { locals = locals; stack = map type_seen (reverse c.self.inside.stack.items); this_uninit = c.self.inside.this_uninit }) in
