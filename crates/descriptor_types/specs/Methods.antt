@@ -3,7 +3,6 @@ use Rattle.std.specs.Prelude.{◌≡◌, List, ◌∷◌, ◌++◌, map, flat_ma
 use Rattle.std.specs.List.{AllByRecursion}
 use Rattle.jv_names.specs.Names.{Name}
 use Rattle.jv_names.specs.declared.descriptor.FieldType.{FieldType}
-use Rattle.jv_names.specs.declared.descriptor.MethodType.{MethodType}
 use Rattle.jv_names.specs.Descriptors.{any_type, type_text, IsNamedType}
 use Rattle.type_frames.specs.declared.vtype.VType.{VType}
 use Rattle.type_frames.specs.Environments.{MethodVType}

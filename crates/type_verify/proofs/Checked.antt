@@ -1,10 +1,9 @@
 -- What the code holds of a method is what the definitions say of it.
-use Rattle.std.proofs.Common.{◌≡◌, ℕ, ◌+◌, ◌<◌, ◌≤◌, ◌^◌, ◌∙◌, Bool, true, false, not, List, [], ◌∷◌, map, length, Option, Some, None, Result, Ok, Err, refl, sym, ap, subst, inl, inr, arith}
-use Rattle.std.specs.Prelude.{All, IsTrue, ◌&&◌, nat_le, pos, option_map, if◌then◌else◌}
+use Rattle.std.proofs.Common.{◌≡◌, ℕ, ◌+◌, ◌<◌, ◌^◌, Bool, true, false, List, [], ◌∷◌, map, length, Option, Some, None, Result, Ok, Err, refl, sym, subst, inl, inr}
+use Rattle.std.specs.Prelude.{All, ◌&&◌, nat_le, pos, option_map, if◌then◌else◌}
 use Rattle.std.proofs.lemmas.Bool.{and_parts, cases_lt}
 use Rattle.std.proofs.lemmas.List.Elements.{All-nil, All-cons}
 use Rattle.ti_ids.specs.Maybe.{◌>>=◌}
-use Rattle.class_code.specs.declared.instr.Instr.{Instr}
 use Rattle.class_code.specs.Listing.{begins}
 use Rattle.class_tree.specs.declared.body.Code.{Code}
 use Rattle.class_tree.specs.declared.members.Member.{Member}

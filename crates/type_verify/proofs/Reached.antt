@@ -1,7 +1,6 @@
 -- One instruction after the other: what passes fits, and what doesn't pass offends.
-use Rattle.std.proofs.Common.{◌≡◌, ℕ, zero, suc, ◌+◌, ◌<◌, ◌≤◌, ◌∙◌, Bool, true, false, not, List, [], ◌∷◌, ◌++◌, length, Option, Some, None, refl, sym, ap, subst, add-one, below_more, arith}
-use Rattle.std.specs.Prelude.{slice_get, find, ◌==◌, ◌&&◌, ◌||◌, All, IsTrue, unwrap_or, Result, Ok, if◌then◌else◌}
-use Rattle.std.specs.List.{list_all}
+use Rattle.std.proofs.Common.{◌≡◌, ℕ, zero, suc, ◌+◌, ◌<◌, ◌≤◌, ◌∙◌, Bool, true, false, List, [], ◌∷◌, ◌++◌, length, Option, Some, None, refl, sym, ap, subst, add-one, below_more, arith}
+use Rattle.std.specs.Prelude.{slice_get, find, ◌==◌, ◌&&◌, All, unwrap_or, Result, Ok, if◌then◌else◌}
 use Rattle.std.specs.Option.{option_map_or}
 use Rattle.std.proofs.lemmas.Bool.{and_parts}
 use Rattle.std.proofs.lemmas.List.{length-append}
@@ -13,7 +12,7 @@ use Rattle.type_frames.specs.TypeChecks.{Checked, initial, mapped, map_frames, s
 use Rattle.type_frames.specs.declared.frame.MapFrame.{MapFrame}
 use Rattle.type_frames.proofs.StateLaws.{agree}
 use Rattle.type_frames.proofs.Sizes.{rule_keeps_locals}
-use Rattle.type_verify.specs.Walking.{are_handled, are_accepted, goes_on, passed, entered_first, entered, stepped, IsReached, Walked}
+use Rattle.type_verify.specs.Walking.{are_handled, are_accepted, goes_on, passed, entered, stepped, IsReached, Walked}
 
 some_is : {A : Type 0} {x y : A} → Some x ≡ Some y → x ≡ y
 some_is e = cc

@@ -1,5 +1,5 @@
 -- How the code holds a method that is checked.
-use Rattle.std.specs.Prelude.{◌≡◌, ◌<◌, ◌^◌, ℕ, List, All, Option, option_map, map, length, Ok}
+use Rattle.std.specs.Prelude.{◌≡◌, ◌<◌, ◌^◌, All, option_map, map, length, Ok}
 use Rattle.class_code.specs.Listing.{IsRising}
 use Rattle.type_frames.specs.Seen.{type_seen}
 use Rattle.type_frames.specs.TypeChecks.{Checked}

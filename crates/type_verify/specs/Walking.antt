@@ -1,7 +1,6 @@
 -- What the walk over a method's code finds, one instruction after the other.
-use Rattle.std.specs.Prelude.{◌≡◌, ℕ, zero, suc, ◌+◌, ◌<◌, Bool, not, ◌&&◌, ◌||◌, true, ℤ, pos, ◌+ℤ◌, nat_lt, List, length, Option, None, Some, slice_get, unwrap_or, if◌then◌else◌}
+use Rattle.std.specs.Prelude.{◌≡◌, ℕ, zero, suc, ◌<◌, Bool, not, ◌&&◌, ◌||◌, ℤ, pos, ◌+ℤ◌, nat_lt, List, length, Option, None, Some, unwrap_or, if◌then◌else◌}
 use Rattle.std.specs.List.{list_all}
-use Rattle.std.specs.Option.{option_map_or}
 use Rattle.ti_ids.specs.Maybe.{◌>>=◌}
 use Rattle.class_code.specs.declared.instr.Instr.{Instr}
 use Rattle.class_code.specs.Listing.{jumps}

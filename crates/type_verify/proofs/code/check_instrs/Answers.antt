@@ -1,5 +1,5 @@
-use Rattle.std.proofs.Common.{◌≡◌, ◌∙◌, ◌++◌, ℕ, ◌<◌, ◌^◌, List, [], map, Bool, false, Option, None, Result, Ok, refl, sym, ap, subst, rules}
-use Rattle.std.specs.Prelude.{All, unwrap_or, option_map}
+use Rattle.std.proofs.Common.{◌≡◌, ◌∙◌, ◌++◌, ℕ, ◌<◌, ◌^◌, List, [], map, false, None, Result, Ok, refl, sym, ap, subst, rules}
+use Rattle.std.specs.Prelude.{All, unwrap_or}
 use Rattle.class_code.specs.declared.instr.Instr.{Instr}
 use Rattle.class_code.specs.Listing.{IsRising}
 use Rattle.class_tree.specs.Tree.{frames_of}

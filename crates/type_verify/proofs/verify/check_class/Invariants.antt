@@ -1,4 +1,4 @@
-use Rattle.std.proofs.Common.{◌≡◌, ℕ, ◌<◌, length}
+use Rattle.std.proofs.Common.{ℕ, ◌<◌}
 use Rattle.type_frames.specs.TypeChecks.{Passes}
 use Rattle.type_verify.proofs.verify.check_class.Given as goal
 

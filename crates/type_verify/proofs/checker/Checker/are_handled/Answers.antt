@@ -1,9 +1,8 @@
-use Rattle.std.proofs.Common.{◌≡◌, ℕ, ◌<◌, Bool, true, false, length, get_or, take, subst, sym, ap₂, ◌∙◌, arith}
+use Rattle.std.proofs.Common.{◌≡◌, ◌<◌, true, false, length, get_or, take, subst, sym, ap₂, ◌∙◌, arith}
 use Rattle.std.specs.Prelude.{◌&&◌}
 use Rattle.std.specs.List.{list_all}
 use Rattle.std.proofs.lemmas.List.Folds.{list_all_more, list_all_at}
 use Rattle.std.proofs.lemmas.List.{take_all}
-use Rattle.class_tree.specs.declared.body.Handler.{Handler}
 use Rattle.handler_ranges.specs.Coverage.{passes_at, CoversAt}
 use Rattle.handler_ranges.proofs.Places.{list_all-covering, passes_at-get_or}
 use Rattle.type_frames.specs.TypeChecks.{is_handled}
