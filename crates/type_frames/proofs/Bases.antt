@@ -1,9 +1,9 @@
 -- How the code takes an array class's descriptor apart.
-use Rattle.std.proofs.Common.{◌≡◌, ℕ, zero, suc, ◌∙◌, ◌+◌, ◌<◌, Bool, true, false, cond, [], ◌∷◌, length, take, drop, get_or, eq-eqb, add-one, refl, sym, ap, arith}
+use Rattle.std.proofs.Common.{◌≡◌, ℕ, zero, suc, ◌∙◌, ◌+◌, ◌<◌, Bool, true, false, cond, [], ◌∷◌, ◌++◌, length, take, drop, get_or, eq-eqb, add-one, refl, sym, ap, arith}
 use Rattle.std.specs.Prelude.{◌==◌}
 use Rattle.std.proofs.Math.Seq.{drop-cons}
 use Rattle.jv_names.specs.Names.{Name}
-use Rattle.type_frames.specs.Types.{Base, Class, is_array, dimensions, front, base_of_text, base_behind, base_of}
+use Rattle.type_frames.specs.Types.{Base, Class, is_array, array_of, dimensions, front, base_of_text, base_behind, base_of}
 use Rattle.type_frames.specs.Hierarchies.{Known}
 use Rattle.type_frames.specs.Assignable.{base_may_be, array_may_be, may_be}
 
@@ -88,6 +88,10 @@ plain_named : (name : Name) → dimensions name ≡ 0 → is_array name ≡ fals
 plain_named [] e = refl
 plain_named (unit ∷ units) e = plain_at (unit == 91) (dimensions units) e
 
+no_dimensions : (name : Name) → is_array name ≡ false → dimensions name ≡ 0
+no_dimensions [] e = refl
+no_dimensions (unit ∷ units) e = at_other (unit == 91) (dimensions units) e
+
 -- a class that is no array is its own
 pub base_plain : (name : Name) → dimensions name ≡ 0 → base_of name ≡ Class name
 base_plain name e = ap (λ (array : Bool). cond array (base_behind name) (Class name)) (plain_named name e)
@@ -109,3 +113,24 @@ pub may_be_less : (h : Known) (m n : ℕ) (e f : Base) → m < n → may_be h m 
 may_be_less h m zero e f lt = absurd (omega arith)
 may_be_less h zero (suc n) e f lt = refl
 may_be_less h (suc m) (suc n) e f lt = may_be_less h m n e f (omega arith)
+
+-- ---- the array class over a class
+
+over_at : (array : Bool) (name : Name) → is_array name ≡ array → dimensions (cond array (91 ∷ name) (91 ∷ 76 ∷ name ++ 59 ∷ [])) ≡ dimensions name + 1
+over_at true name e = omega arith
+over_at false name e = let none : dimensions name ≡ 0 = no_dimensions name e in omega arith
+
+pub dimensions_over : (name : Name) → dimensions (array_of name) ≡ dimensions name + 1
+dimensions_over name = over_at (is_array name) name refl
+
+pub front_ended : (name : Name) (unit : ℕ) → front (name ++ unit ∷ []) ≡ name
+front_ended [] unit = refl
+front_ended (x ∷ []) unit = refl
+front_ended (x ∷ y ∷ name) unit = ap (λ (units : Name). x ∷ units) (front_ended (y ∷ name) unit)
+
+base_at : (array : Bool) (name : Name) → is_array name ≡ array → base_of (cond array (91 ∷ name) (91 ∷ 76 ∷ name ++ 59 ∷ [])) ≡ base_of name
+base_at true name e = sym (ap (λ (b : Bool). cond b (base_behind name) (Class name)) e)
+base_at false name e = ap Class (front_ended name 59) ∙ sym (ap (λ (b : Bool). cond b (base_behind name) (Class name)) e)
+
+pub base_over : (name : Name) → base_of (array_of name) ≡ base_of name
+base_over name = base_at (is_array name) name refl

@@ -7,3 +7,5 @@ pub mod StateLaws
 pub mod MethodLaws
 pub mod Fitting
 pub mod Formed
+pub mod Examples
+pub mod Sizes

@@ -1,5 +1,5 @@
 -- What is computed of assignability is the least relation.
-use Rattle.std.proofs.Common.{◌≡◌, ℕ, zero, suc, Bool, true, false, refl, subst, ⊎_elim, inl, inr, eq-eqb, eqb-true}
+use Rattle.std.proofs.Common.{◌≡◌, ℕ, zero, suc, Bool, true, false, refl, sym, subst, ⊎_elim, inl, inr, eq-eqb, eqb-true}
 use Rattle.std.specs.Prelude.{◌||◌, bytes_eq, ◌⊎◌}
 use Rattle.std.specs.Bool.{Decides}
 use Rattle.std.proofs.lemmas.Slice.Eq.{bytes_eq-Decides}
@@ -7,7 +7,7 @@ use Rattle.jv_names.specs.Names.{Name}
 use Rattle.type_frames.specs.declared.vtype.VType.{VType}
 use Rattle.type_frames.specs.declared.vtype.VType.TheVariants as vtype
 use Rattle.type_frames.specs.Types.{Base, Number, Class, dimensions, base_of}
-use Rattle.type_frames.specs.Hierarchies.{Known}
+use Rattle.type_frames.specs.Hierarchies.{Known, Same}
 use Rattle.type_frames.specs.Assignable.{is_for_all, MayBe, Subclass, ForAll, Numbers, ArrayForClass, Components, base_may_be, array_may_be, may_be, IsAssignable, Itself, ToTop, FromNull, ToClass, class_may_be, is_assignable}
 use Rattle.type_frames.proofs.Chains.{chain_from, chain_below}
 
@@ -48,6 +48,19 @@ module _ (h : Known) where
   may_be_from (Numbers {unit = unit}) = eq-eqb unit unit refl
   may_be_from (ArrayForClass is) = is
   may_be_from (Components may) = may_be_from may
+
+  base_itself : (e : Base) → base_may_be h e e ≡ true
+  base_itself (Class a) = or_second (is_for_all h a) _ (chain_from h a a Same)
+  base_itself (Number u) = eq-eqb u u refl
+
+  may_be_itself : (n : ℕ) (e : Base) → may_be h n e n e ≡ true
+  may_be_itself zero e = base_itself e
+  may_be_itself (suc n) e = may_be_itself n e
+
+  -- an equal name needs no test of its own
+  class_may_be_by : (a b : Name) (same : Bool) → bytes_eq a b ≡ same → (same || may_be h (dimensions a) (base_of a) (dimensions b) (base_of b)) ≡ may_be h (dimensions a) (base_of a) (dimensions b) (base_of b)
+  class_may_be_by a b true e = sym (subst (λ (x : Name). may_be h (dimensions a) (base_of a) (dimensions x) (base_of x) ≡ true) ((bytes_eq-Decides a b).0 e) (may_be_itself (dimensions a) (base_of a)))
+  class_may_be_by a b false e = refl
 
   -- ---- types
 
@@ -97,3 +110,6 @@ module _ (h : Known) where
 
 pub assignable_decides : (h : Known) (t of : VType) → Decides (is_assignable h t of) (IsAssignable h t of)
 assignable_decides h t of = (type_to h t of, λ is. type_from h is)
+
+pub class_may_be_is : (h : Known) (a b : Name) → class_may_be h a b ≡ may_be h (dimensions a) (base_of a) (dimensions b) (base_of b)
+class_may_be_is h a b = class_may_be_by h a b (bytes_eq a b) refl

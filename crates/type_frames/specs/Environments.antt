@@ -1,5 +1,5 @@
 -- What the rules know of a method (JVM specification 4.10.1.1), and what entries of the constant pool stand for.
-use Rattle.std.specs.Prelude.{ℕ, Bool, List, find, ◌==◌, Option, Some, None, option_map}
+use Rattle.std.specs.Prelude.{ℕ, Bool, List, find, ◌==◌, Option, Some, None, option_map, map}
 use Rattle.std.specs.Option.{option_and_then}
 use Rattle.ti_ids.specs.Maybe.{◌>>=◌}
 use Rattle.jv_names.specs.Names.{Name}
@@ -16,6 +16,7 @@ use Rattle.class_tree.specs.declared.pool.Const.TheVariants as const
 use Rattle.class_tree.specs.Tree.{entry_at, class_at, name_type_at}
 use Rattle.type_frames.specs.Hierarchies.{Known}
 use Rattle.type_frames.specs.declared.vtype.VType.{VType}
+use Rattle.type_frames.specs.Types.{field_vtype}
 
 -- the classes, the class's constant pool, its name and its superclass's, whether the method is an `<init>`, the type of its
 -- result, its greatest stack in words, and its instructions
@@ -44,6 +45,17 @@ result_type m = elim m.result [ None ↦ Some None | Some t ↦ option_map (λ r
 abbrev pub method_type : Name → Option MethodType
 method_type text =
     read_method text >>= λ m. parameter_types m >>= λ parameters. result_type m >>= λ result. Some (record { parameters = parameters; result = result })
+
+-- the types of a method's parameters and of its result
+pub record MethodVType : Type 0 where
+  pub parameters : List VType
+  pub result : Option VType
+
+abbrev pub method_vtypes : MethodType → MethodVType
+method_vtypes m = record { parameters = map field_vtype m.parameters; result = option_map field_vtype m.result }
+
+abbrev pub method_vtype : Name → Option MethodVType
+method_vtype text = option_map method_vtypes (method_type text)
 
 -- ---- fields and methods that the pool names: section 4.4.2
 

@@ -16,3 +16,4 @@ pub mod TypeChecks
 pub mod Keyed
 pub mod Laws
 pub mod Bases
+pub mod Seen

@@ -3,15 +3,13 @@ use Rattle.std.specs.Prelude.{ℕ, ◌+◌, ◌==◌, Bool, true, false, not, �
 use Rattle.std.specs.Option.{option_map_or}
 use Rattle.ti_ids.specs.Maybe.{◌>>=◌}
 use Rattle.jv_names.specs.Names.{Name}
-use Rattle.jv_names.specs.declared.descriptor.FieldType.{FieldType}
-use Rattle.jv_names.specs.declared.descriptor.MethodType.{MethodType}
 use Rattle.class_code.specs.declared.instr.Kind.{Kind}
 use Rattle.type_frames.specs.declared.vtype.VType.{VType}
 use Rattle.type_frames.specs.declared.vtype.VType.TheVariants as vtype
-use Rattle.type_frames.specs.Types.{field_vtype, expanded, is_uninit_this}
+use Rattle.type_frames.specs.Types.{expanded, is_uninit_this}
 use Rattle.type_frames.specs.Assignable.{is_assignable}
 use Rattle.type_frames.specs.States.{State, top_if, taken, all_taken}
-use Rattle.type_frames.specs.Environments.{Environment, Reference, method_at, method_type, made_at}
+use Rattle.type_frames.specs.Environments.{Environment, Reference, MethodVType, method_at, method_vtype, made_at}
 use Rattle.type_frames.specs.RulesOfNumbers.{moved}
 use Rattle.type_frames.specs.RulesOfLocals.{is_of_kind}
 
@@ -25,34 +23,34 @@ is_special name = is_init_name name || bytes_eq name (codes "<clinit>")
 -- ---- arguments and results
 
 -- the types of arguments as they lie on the stack, the last one on top
-abbrev pub arguments : MethodType → List VType
-arguments m = reverse (map field_vtype m.parameters)
+abbrev pub arguments : MethodVType → List VType
+arguments m = reverse m.parameters
 
 -- what a call pushes, which is nothing for void
-abbrev pub results : Option FieldType → List VType
+abbrev pub results : Option VType → List VType
 results None = []
-results (Some t) = field_vtype t ∷ []
+results (Some t) = t ∷ []
 
 -- ---- calls of methods that are neither `<init>` nor `<clinit>`
 
-abbrev pub named_method : Environment → ℕ → Option (Reference × MethodType)
-named_method env index = method_at env.pool index >>= λ r. method_type r.desc >>= λ m. Some (r, m)
+abbrev pub named_method : Environment → ℕ → Option (Reference × MethodVType)
+named_method env index = method_at env.pool index >>= λ r. method_vtype r.desc >>= λ m. Some (r, m)
 
-abbrev pub plain_method : Environment → ℕ → Option (Reference × MethodType)
+abbrev pub plain_method : Environment → ℕ → Option (Reference × MethodVType)
 plain_method env index = named_method env index >>= λ x. if is_special x.0.name then None else Some x
 
 abbrev pub invoke_static_rule : Environment → ℕ → State → Option State
 invoke_static_rule env index s = plain_method env index >>= λ x. moved env (arguments x.1) (results x.1.result) s
 
 -- the arguments, and below them an object of this class, are taken
-abbrev pub called : Environment → Name → MethodType → State → Option State
+abbrev pub called : Environment → Name → MethodVType → State → Option State
 called env class m s = moved env (arguments m ++ vtype.Object class ∷ []) (results m.result) s
 
 abbrev pub invoke_virtual_rule : Environment → ℕ → State → Option State
 invoke_virtual_rule env index s = plain_method env index >>= λ x. called env x.0.class x.1 s
 
 -- the words of arguments and of the object, which `invokeinterface` counts
-abbrev pub argument_words : MethodType → ℕ
+abbrev pub argument_words : MethodVType → ℕ
 argument_words m = length (expanded (arguments m)) + 1
 
 abbrev pub invoke_interface_rule : Environment → ℕ → ℕ → State → Option State
@@ -61,7 +59,7 @@ invoke_interface_rule env index count s =
 
 -- `invokespecial` of another method than an `<init>`: of the current class or one that it may stand for; the object is of
 -- the current class, and so of the other
-abbrev pub invoke_super_rule : Environment → Reference × MethodType → State → Option State
+abbrev pub invoke_super_rule : Environment → Reference × MethodVType → State → Option State
 invoke_super_rule env x s =
     if is_assignable env.hierarchy (vtype.Object env.class) (vtype.Object x.0.class)
     then (called env env.class x.1 s >>= λ left. called env x.0.class x.1 s >>= λ other. Some left) else None
@@ -98,11 +96,11 @@ with_initialized uninit made s = record {
 abbrev pub is_any : VType → Bool
 is_any t = true
 
-abbrev pub without_result : Option FieldType → State → Option State
+abbrev pub without_result : Option VType → State → Option State
 without_result None s = Some s
 without_result (Some t) s = None
 
-abbrev pub invoke_init_rule : Environment → Reference × MethodType → State → Option State
+abbrev pub invoke_init_rule : Environment → Reference × MethodVType → State → Option State
 invoke_init_rule env x s = without_result x.1.result s >>= λ u. all_taken env.hierarchy (arguments x.1) u >>= λ a. top_if is_any a >>= λ p.
     initialized env x.0.class p.0 >>= λ made. Some (with_initialized p.0 made p.1)
 

@@ -1,6 +1,6 @@
 -- The rules of the instructions on constants of the pool, fields and objects (JVM specification 4.10.1.9), without what protected
 -- members ask.
-use Rattle.std.specs.Prelude.{ℕ, Bool, true, false, not, ◌&&◌, [], ◌∷◌, map, Option, Some, None, bytes_eq, if◌then◌else◌, codes, ◌==◌}
+use Rattle.std.specs.Prelude.{ℕ, Bool, false, not, ◌&&◌, [], ◌∷◌, map, Option, Some, None, bytes_eq, if◌then◌else◌, codes, ◌==◌}
 use Rattle.std.specs.List.{list_any}
 use Rattle.std.specs.Option.{option_or}
 use Rattle.ti_ids.specs.Maybe.{◌>>=◌}

@@ -1,5 +1,5 @@
 -- What the entries of a stack map stand for (JVM specification 4.7.4 and 4.10.1.4).
-use Rattle.std.specs.Prelude.{ℕ, ◌+◌, ◌-◌, Bool, true, false, ◌&&◌, List, [], ◌∷◌, ◌++◌, map, take, length, replicate, nat_le, Option, Some, None, pos, unwrap_or, Result, Ok, Err, if◌then◌else◌}
+use Rattle.std.specs.Prelude.{ℕ, ◌+◌, ◌-◌, Bool, ◌&&◌, List, [], ◌∷◌, ◌++◌, map, take, length, replicate, nat_le, Option, Some, None, pos, unwrap_or, Result, Ok, Err, if◌then◌else◌}
 use Rattle.std.specs.List.{list_any}
 use Rattle.ti_ids.specs.Maybe.{◌>>=◌}
 use Rattle.class_code.specs.declared.instr.Instr.{Instr}

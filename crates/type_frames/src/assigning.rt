@@ -1,9 +1,11 @@
-ghost use Rattle.std.specs.Prelude.{◌≡◌, ◌≤◌, ◌<◌, ◌↔◌, IsTrue, option_copied, bytes_eq, length};
-ghost use Rattle.type_frames.specs.Types.{dimensions, base_of_text, base_of, front as front_of};
+ghost use Rattle.std.specs.Prelude.{◌≡◌, ◌≤◌, ◌↔◌, IsTrue, option_copied, bytes_eq, length};
+ghost use Rattle.type_frames.specs.Types.{dimensions as count_of_dimensions, base_of_text, base_of, front as front_of};
 ghost use Rattle.type_frames.specs.Hierarchies.{superclass, is_interface, is_subclass};
 ghost use Rattle.type_frames.specs.Assignable.{is_for_all, is_for_arrays, base_may_be, array_may_be, class_may_be, is_assignable, IsAssignable};
 ghost use Rattle.type_frames.specs.Bases.{base_held};
+ghost use Rattle.type_frames.specs.Seen.{name_seen, type_seen};
 
+use crate::seen::{ClassName, VTypeRef};
 use crate::{Hierarchy, VType};
 
 /// What an array's elements are when all dimensions are taken off, or a class that is no array.
@@ -37,7 +39,7 @@ pub(crate) fn is_text(units: &[u16], text: &[u8]) -> bool
 }
 
 /// The name of a class's superclass, where the class is known and has one.
-fn superclass_of<'a>(hierarchy: &'a Hierarchy, name: &[u16]) -> Option<&'a [u16]>
+pub(crate) fn superclass_of<'a>(hierarchy: &'a Hierarchy, name: &[u16]) -> Option<&'a [u16]>
     ensures { option_copied result ≡ superclass hierarchy.now name.now }
 {
     match &hierarchy.named(name)?.superclass {
@@ -75,18 +77,29 @@ fn is_below(hierarchy: &Hierarchy, name: &[u16], of: &[u16]) -> bool
     of == class
 }
 
-/// How many `[` the name begins with.
+/// How many dimensions the class of this name has: how many `[` the text begins with.
 #[tactic(auto, using(crate::proofs::Bases::dimensions_more, crate::proofs::Bases::dimensions_end, crate::proofs::Bases::dimensions_all))]
-fn dimensions_of(name: &[u16]) -> usize
-    ensures value { result ≡ dimensions name.now }
-    ensures within { result ≤ length name.now }
+pub fn dimensions(text: &[u16]) -> usize
+    ensures value { result ≡ count_of_dimensions text.now }
+    ensures within { result ≤ length text.now }
 {
-    for (i, unit) in name.iter().enumerate() {
+    for (i, unit) in text.iter().enumerate() {
         if *unit != 91 {
             return i;
         }
     }
-    name.len()
+    text.len()
+}
+
+/// How many dimensions a class has.
+#[tactic(auto, using(crate::proofs::Bases::dimensions_over))]
+fn dimensions_of(name: ClassName<'_>) -> usize
+    ensures { result ≡ count_of_dimensions (name_seen name.entry) }
+{
+    match name {
+        ClassName::Named(text) => dimensions(text),
+        ClassName::ArrayOf(text) => dimensions(text) + 1,
+    }
 }
 
 /// Without the last unit.
@@ -112,16 +125,26 @@ fn plain_base(text: &[u16]) -> BaseText<'_>
 }
 
 #[tactic(auto, using(crate::proofs::Bases::base_plain))]
-fn base_text(name: &[u16], count: usize) -> BaseText<'_>
-    requires count { count ≡ dimensions name.now }
-    requires within { count ≤ length name.now }
-    ensures { base_held result ≡ base_of name.now }
+fn base_text(text: &[u16]) -> BaseText<'_>
+    ensures { base_held result ≡ base_of text.now }
 {
+    let count = dimensions(text);
     if count == 0 {
-        return BaseText::Class(name);
+        return BaseText::Class(text);
     }
-    let (_, behind) = name.split_at(count);
+    let (_, behind) = text.split_at(count);
     plain_base(behind)
+}
+
+/// What a class's elements are.
+#[tactic(auto, using(crate::proofs::Bases::base_over))]
+fn base_of_name(name: ClassName<'_>) -> BaseText<'_>
+    ensures { base_held result ≡ base_of (name_seen name.entry) }
+{
+    match name {
+        ClassName::Named(text) => base_text(text),
+        ClassName::ArrayOf(text) => base_text(text),
+    }
 }
 
 /// Whether every class may stand for this one.
@@ -162,36 +185,34 @@ fn array_stands_for(to: BaseText<'_>) -> bool
 }
 
 /// Whether a class may stand for another one, each of which may be an array's (4.10.1.2).
-#[tactic(auto, using(crate::proofs::Bases::may_be_equal, crate::proofs::Bases::may_be_more, crate::proofs::Bases::may_be_less))]
-fn class_stands_for(hierarchy: &Hierarchy, from: &[u16], to: &[u16]) -> bool
-    ensures { result ≡ class_may_be hierarchy.now from.now to.now }
+#[tactic(auto, using(crate::proofs::Bases::may_be_equal, crate::proofs::Bases::may_be_more, crate::proofs::Bases::may_be_less, crate::proofs::Standing::class_may_be_is))]
+fn class_stands_for(hierarchy: &Hierarchy, from: ClassName<'_>, to: ClassName<'_>) -> bool
+    ensures { result ≡ class_may_be hierarchy.now (name_seen from.entry) (name_seen to.entry) }
 {
-    if from == to {
-        return true;
-    }
     let given = dimensions_of(from);
     let wanted = dimensions_of(to);
     if given == wanted {
-        return base_stands_for(hierarchy, base_text(from, given), base_text(to, wanted));
+        return base_stands_for(hierarchy, base_of_name(from), base_of_name(to));
     }
-    wanted < given && array_stands_for(base_text(to, wanted))
+    wanted < given && array_stands_for(base_of_name(to))
 }
 
+/// Whether a value of the one type may stand for one of the other, for types that are seen where they stand.
 #[tactic(auto, unfolding(crate::specs::Assignable::is_assignable))]
-fn stands_for(hierarchy: &Hierarchy, from: &VType, to: &VType) -> bool
-    ensures { result ≡ is_assignable hierarchy.now from.now to.now }
+pub fn stands_for(hierarchy: &Hierarchy, from: VTypeRef<'_>, to: VTypeRef<'_>) -> bool
+    ensures { result ≡ is_assignable hierarchy.now (type_seen from.entry) (type_seen to.entry) }
 {
     match (from, to) {
-        (_, VType::Top) => true,
-        (VType::Integer, VType::Integer) => true,
-        (VType::Long, VType::Long) => true,
-        (VType::Null, VType::Null) => true,
-        (VType::UninitThis, VType::UninitThis) => true,
-        (VType::Uninit(at), VType::Uninit(with)) => at == with,
-        (VType::Null, VType::Object(_)) => true,
-        (VType::Object(class), VType::Object(with)) => {
-            class_stands_for(hierarchy, class.as_slice(), with.as_slice())
-        }
+        (_, VTypeRef::Top) => true,
+        (VTypeRef::Integer, VTypeRef::Integer) => true,
+        (VTypeRef::Long, VTypeRef::Long) => true,
+        (VTypeRef::Null, VTypeRef::Null) => true,
+        (VTypeRef::UninitThis, VTypeRef::UninitThis) => true,
+        (VTypeRef::Uninit(at), VTypeRef::Uninit(with)) => at == with,
+        (VTypeRef::Null, VTypeRef::Object(_)) => true,
+        (VTypeRef::Object(class), VTypeRef::Object(with)) => class_stands_for(
+            hierarchy, class, with,
+        ),
         _ => false,
     }
 }
@@ -207,5 +228,5 @@ pub fn assignable(hierarchy: &Hierarchy, from: &VType, to: &VType) -> bool
     // That is the least relation of the standard's rules.
     ensures exact { IsTrue result ↔ IsAssignable hierarchy.now from.now to.now }
 {
-    stands_for(hierarchy, from, to)
+    stands_for(hierarchy, from.seen(), to.seen())
 }

@@ -13,15 +13,3 @@ pub struct MapFrame {
     /// Whether the method is an `<init>` that has not called another one yet, on some way to here.
     pub this_uninit: bool,
 }
-
-/// The type states of a method's code, one for each instruction, in order of offsets.
-#[derive(Drop)]
-pub struct TypedCode {
-    pub frames: Items<MapFrame>,
-}
-
-/// Those of each method of a class that has code, in the order of the file.
-#[derive(Drop)]
-pub struct Typed {
-    pub codes: Items<TypedCode>,
-}

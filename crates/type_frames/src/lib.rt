@@ -8,18 +8,22 @@
 
 mod assigning;
 mod fault;
+mod finals;
 mod frame;
 mod hierarchy;
 mod known;
 mod laws;
-mod listed;
+mod seen;
+#[cfg(test)]
+mod tests;
 mod vtype;
-mod words;
 
-pub use assigning::assignable;
+pub use assigning::{assignable, dimensions, stands_for};
 pub use fault::MapFault;
-pub use frame::{MapFrame, Typed, TypedCode};
+pub use finals::{has_final_above, is_final};
+pub use frame::MapFrame;
 pub use hierarchy::{HierarchyClass, Signature};
 pub use known::Hierarchy;
 pub use laws::type_laws;
+pub use seen::{ClassName, VTypeRef};
 pub use vtype::VType;

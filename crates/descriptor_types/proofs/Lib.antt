@@ -1,0 +1,4 @@
+pub mod FieldTexts
+pub mod TypeEnds
+pub mod MethodTexts
+pub mod Members

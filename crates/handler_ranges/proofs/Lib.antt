@@ -1,0 +1,5 @@
+pub mod Permuted
+pub mod Filtered
+pub mod Places
+pub mod Splits
+pub mod Advances

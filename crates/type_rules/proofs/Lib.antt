@@ -1,0 +1,6 @@
+pub mod Tops
+pub mod Lookups
+pub mod ArrayNames
+pub mod Lengths
+pub mod Arguments
+pub mod Calling

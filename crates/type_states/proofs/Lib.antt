@@ -1,0 +1,11 @@
+pub mod Changes
+pub mod Taking
+pub mod Stores
+pub mod Words
+pub mod NodeLists
+pub mod Assigned
+pub mod Begun
+pub mod Mapping
+pub mod Found
+pub mod Steps
+pub mod Loads

@@ -1,0 +1,4 @@
+pub mod Walking
+pub mod Checkers
+pub mod Outcomes
+pub mod Verdicts

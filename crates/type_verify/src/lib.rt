@@ -1,0 +1,12 @@
+//! The type checker of class files (JVM specification 4.10.1): whether a method and a class pass it, with their type states, and
+//! where they fail first.
+#![tactic(auto)]
+
+mod begin;
+mod checker;
+mod code;
+mod flow;
+mod verify;
+mod walk;
+
+pub use verify::VerifyFault;
