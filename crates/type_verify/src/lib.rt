@@ -9,4 +9,4 @@ mod flow;
 mod verify;
 mod walk;
 
-pub use verify::VerifyFault;
+pub use verify::{VerifyFault, check_class, check_method};
