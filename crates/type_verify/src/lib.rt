@@ -6,7 +6,9 @@ mod begin;
 mod checker;
 mod code;
 mod flow;
+#[cfg(test)]
+mod tests;
 mod verify;
 mod walk;
 
-pub use verify::VerifyFault;
+pub use verify::{VerifyFault, check_class, check_method};
