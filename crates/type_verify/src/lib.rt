@@ -6,6 +6,8 @@ mod begin;
 mod checker;
 mod code;
 mod flow;
+#[cfg(test)]
+mod tests;
 mod verify;
 mod walk;
 
