@@ -5,6 +5,10 @@
 mod begin;
 mod checker;
 mod code;
+#[cfg(test)]
+mod fixture_tests;
+#[cfg(test)]
+mod fixtures;
 mod flow;
 #[cfg(test)]
 mod tests;
