@@ -2,6 +2,8 @@
 //! where they fail first.
 #![tactic(auto)]
 
+#[cfg(test)]
+mod assembling;
 mod begin;
 mod checker;
 mod code;
@@ -11,8 +13,20 @@ mod fixture_tests;
 mod fixtures;
 mod flow;
 #[cfg(test)]
+mod flow_tests;
+#[cfg(test)]
+mod large_tests;
+#[cfg(test)]
+mod method_tests;
+#[cfg(test)]
+mod object_tests;
+#[cfg(test)]
+mod rule_tests;
+#[cfg(test)]
 mod tests;
 mod verify;
 mod walk;
+#[cfg(test)]
+mod words;
 
 pub use verify::{VerifyFault, check_class, check_method};
