@@ -126,8 +126,9 @@ fn tells_where_the_row_of_a_verify_error_fails(rt: HostRuntime) -> Result<(), Fa
     Ok(())
 }
 
-/// Known files, of which the last is checked, and the method and the instruction at which it fails, if it does. Where a class that
-/// it names isn't wanting, `java` links it, or refuses it for that method.
+/// Known files, of which the last is checked, and the method and the instruction at which it fails, if it does. Where no class that
+/// it names is wanting, `java` links it or refuses it, and names the same method or, of `Below`, the final superclass. What fails or
+/// passes for want of a class is so by 4.10.1.
 #[test]
 fn checks_against_what_files_state(rt: HostRuntime) -> Result<(), Fail> {
     let cases: [(&[&str], Option<(usize, u16)>); 15] = [
