@@ -2,7 +2,12 @@
 
 It writes the same class files, by the words and tables of the tests' sources, and has `java` link each class. It prints each class
 of which the tests and `java` don't agree on whether it passes, with `--all` each class, and how many agree. It runs outside the
-gate, and is skipped where java or javac is missing."""
+gate, and is skipped where java or javac is missing.
+
+`java` 17 passes two that the tests have fail: a `new` finds what it made itself on its stack, or in a local variable that is used
+afterwards. The specification refuses the one and makes the variable unusable (4.10.1.9, `new`). Of those that fail, `java` names
+another offset where states are compared: that of the target, the handler or the next instruction, in place of the instruction that
+leads there. What it refuses before it looks at instructions has no offset."""
 
 import pathlib
 import re
