@@ -7,3 +7,5 @@ pub mod Checked
 pub mod Beginning
 pub mod Judged
 pub mod NoInstrs
+pub mod Passing
+pub mod Gathering

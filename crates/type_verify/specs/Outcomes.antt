@@ -1,9 +1,9 @@
 -- What the walk over a method's code answers.
-use Rattle.std.specs.Prelude.{◌≡◌, Bool, true, false, not, IsTrue, List, Result, Ok, Err}
+use Rattle.std.specs.Prelude.{◌≡◌, Bool, true, false, not, IsTrue, List, length, Some, Result, Ok, Err}
 use Rattle.type_frames.specs.declared.fault.MapFault.{MapFault}
 use Rattle.type_frames.specs.declared.fault.MapFault.TheVariants as map_fault
 use Rattle.type_frames.specs.States.{State}
-use Rattle.type_frames.specs.TypeChecks.{Checked, AreStates, IsOffending, IsOffendingIn}
+use Rattle.type_frames.specs.TypeChecks.{Checked, initial, AreStates, IsOffending, IsOffendingIn}
 use Rattle.type_verify.specs.Checkers.{checked_of, IsReady}
 use Rattle.type_verify.specs.declared.checker.Checker.{Checker}
 use Rattle.type_verify.specs.declared.walk.Halt.{Halt}
@@ -26,3 +26,10 @@ abbrev pub IsMade : Bool → Checked → Result Checker MapFault → Type 0
 IsMade bad m (Ok c) = (bad ≡ false) × (checked_of c ≡ m) × IsReady c
 IsMade bad m (Err (map_fault.Bad place)) = bad ≡ true
 IsMade bad m (Err map_fault.Memory) = Unit {0}
+
+-- the code holds this method and the state with which it begins
+pub record IsBegun (m : Checked) (c : Checker) (s : State) : Type 0 where
+  pub checked : checked_of c ≡ m
+  pub ready : IsReady c
+  pub begun : initial m ≡ Some s
+  pub room : length s.locals ≡ c.max_locals

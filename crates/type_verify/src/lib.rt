@@ -2,6 +2,7 @@
 //! where they fail first.
 #![tactic(auto)]
 
+mod again;
 mod begin;
 mod checker;
 mod code;
@@ -9,8 +10,10 @@ mod expanding;
 mod flow;
 #[cfg(test)]
 mod tests;
+mod typed;
 mod verify;
 mod walk;
 
 pub use expanding::expand;
+pub use typed::{Typed, TypedCode, verify_class, verify_method};
 pub use verify::{VerifyFault, check_class, check_method};
