@@ -7,7 +7,7 @@ use Rattle.type_frames.specs.States.{State, held}
 use Rattle.type_frames.specs.Rules.{rule}
 use Rattle.type_frames.specs.TypeChecks.{Checked}
 use Rattle.type_verify.specs.Walking.{entered}
-use Rattle.type_verify.specs.Typing.{typed_from, AllPass}
+use Rattle.type_verify.specs.Recomputing.{typed_from, AllPass}
 use Rattle.type_verify.proofs.Reached.{some_is}
 use Rattle.type_verify.proofs.Passing.{drop_over, first_of}
 

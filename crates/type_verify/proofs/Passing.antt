@@ -18,7 +18,8 @@ use Rattle.type_frames.specs.States.{State, held}
 use Rattle.type_frames.specs.Rules.{rule}
 use Rattle.type_frames.specs.TypeChecks.{Checked, initial, mapped, is_state_assignable, left_at, IsFirst, IsLater, IsGiven, FitsAt, AreStates, is_bad_map, map_in, checked, offends_at_once, ChecksIn, Passes, ClassPasses}
 use Rattle.type_verify.specs.Walking.{entered, passed, IsReached}
-use Rattle.type_verify.specs.Typing.{code_at, held_at, instrs_of, IsTyped, IsEntryTyped, IsClassTyped, typed_step, typed_from, typed, entry_of, frames_at, entries_of, CodePasses, AllPass, IsCodeAt}
+use Rattle.type_verify.specs.Typing.{code_at, held_at, instrs_of, IsTyped, IsEntryTyped, IsClassTyped}
+use Rattle.type_verify.specs.Recomputing.{typed_step, typed_from, typed, entry_of, frames_at, entries_of, CodePasses, AllPass, IsCodeAt}
 use Rattle.type_verify.proofs.Reached.{some_is, reached_next, passes, is_passed}
 
 -- ---- lists

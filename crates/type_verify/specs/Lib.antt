@@ -3,3 +3,4 @@ pub mod Checkers
 pub mod Outcomes
 pub mod Verdicts
 pub mod Typing
+pub mod Recomputing

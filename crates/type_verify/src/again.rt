@@ -1,15 +1,14 @@
 //! A code that passes its type check, gone through again for its type states.
-ghost use Rattle.std.specs.Prelude.{◌≡◌, ◌==◌, [], true, None, Some, length, unwrap_or, IfOk, OnOk, find};
+ghost use Rattle.std.specs.Prelude.{◌≡◌, ◌==◌, ◌<◌, ◌^◌, [], true, None, Some, All, length, unwrap_or, IfOk, OnOk, find};
 ghost use Rattle.class_tree.specs.CodeRules.{is_code};
 ghost use Rattle.class_code.specs.Listing.{IsRising};
 ghost use Rattle.std.specs.List.Sorted.{IsNonDecreasingBy};
-ghost use Rattle.std.specs.Prelude.{◌<◌, ◌^◌, All};
 ghost use Rattle.type_frames.specs.Rules.{rule as rule_of};
 ghost use Rattle.type_frames.specs.TypeChecks.{checked, instrs_in};
 ghost use Rattle.type_rules.specs.Methods.{env_of};
 ghost use Rattle.type_verify.specs.Checkers.{checked_of, IsReady};
 ghost use Rattle.type_verify.specs.Outcomes.{IsBegun};
-ghost use Rattle.type_verify.specs.Typing.{typed_from, typed, AllPass, CodePasses};
+ghost use Rattle.type_verify.specs.Recomputing.{typed_from, typed, AllPass, CodePasses};
 ghost use Rattle.type_verify.specs.Walking.{entered};
 
 use crate::checker::Checker;

@@ -1,6 +1,7 @@
 //! Methods and classes that have passed their type check, with their type states (4.10.1).
 ghost use Rattle.std.specs.Prelude.{◌≡◌, ◌==◌, ◌<◌, None, Some, length, find, slice_get, IfOk, MatchOption};
-ghost use Rattle.type_verify.specs.Typing.{code_at, IsCodeAt, IsTypedVerdict, IsTypedClassVerdict};
+ghost use Rattle.type_verify.specs.Typing.{code_at, IsTypedVerdict, IsTypedClassVerdict};
+ghost use Rattle.type_verify.specs.Recomputing.{IsCodeAt};
 
 use crate::again::{code_frame, code_frames};
 use crate::verify::{VerifyFault, check_class, check_method};
@@ -27,7 +28,8 @@ impl<'a> Model for TypedCode<'a> {
 
     ghost Value = { List MapFrame };
 
-    ghost use Rattle.type_verify.specs.Typing.{frames_at, IsTyped};
+    ghost use Rattle.type_verify.specs.Typing.{IsTyped};
+    ghost use Rattle.type_verify.specs.Recomputing.{frames_at};
 
     ghost view = { λ c. frames_at c.hierarchy.now c.tree.now c.method };
 
@@ -48,7 +50,7 @@ impl<'a> Model for Typed<'a> {
     ghost Value = { List (Option (List MapFrame)) };
 
     ghost use Rattle.type_frames.specs.TypeChecks.{ClassPasses};
-    ghost use Rattle.type_verify.specs.Typing.{entries_of};
+    ghost use Rattle.type_verify.specs.Recomputing.{entries_of};
 
     ghost view = { λ c. entries_of c.hierarchy.now c.tree.now };
 
