@@ -16,7 +16,7 @@ use Rattle.type_frames.specs.declared.frame.MapFrame.{MapFrame}
 use Rattle.type_frames.specs.Hierarchies.{Known}
 use Rattle.type_frames.specs.States.{State, held}
 use Rattle.type_frames.specs.Rules.{rule}
-use Rattle.type_frames.specs.TypeChecks.{Checked, initial, mapped, is_state_assignable, left_at, IsFirst, IsLater, IsGiven, FitsAt, AreStates, is_bad_map, map_in, checked, offends_at_once, ChecksIn, Passes, ClassPasses}
+use Rattle.type_frames.specs.TypeChecks.{Checked, initial, mapped, is_state_assignable, left_at, IsFirst, IsLater, IsGiven, FitsAt, AreStates, is_bad_map, map_in, checked, offends_at_once, ChecksIn, TypeChecks, Passes, ClassPasses}
 use Rattle.type_verify.specs.Walking.{entered, passed, IsReached}
 use Rattle.type_verify.specs.Typing.{code_at, held_at, instrs_of, IsTyped, IsEntryTyped, IsClassTyped}
 use Rattle.type_verify.specs.Recomputing.{typed_step, typed_from, typed, entry_of, frames_at, entries_of, CodePasses, AllPass, IsCodeAt}
@@ -193,14 +193,17 @@ module _ (h : Known) (t : Tree) where
     frames_with m None states checks = refl
     frames_with m (Some code) states checks = typed_frames (checked h t m code) states checks.1 (checked h t m code).env.instrs refl
 
+    are_found : (states : List State) → TypeChecks h t place states → frames_at h t place ≡ held_at (instrs_of (code_at t place)) states
+    are_found states checks =
+        ap (λ (o : Option Member). unwrap_or (o >>= entry_of h t) []) checks.1 ∙ frames_with checks.0 (code_of checks.0.attrs) states checks.2
+        ∙ sym (ap (λ (o : Option Member). held_at (instrs_of (o >>= λ m. code_of m.attrs)) states) checks.1)
+
     pub passes_typed : Passes h t place → IsTyped h t place (frames_at h t place)
-    passes_typed p = record {
-      states = p.0;
-      checks = p.1;
-      are =
-          ap (λ (o : Option Member). unwrap_or (o >>= entry_of h t) []) p.1.1 ∙ frames_with p.1.0 (code_of p.1.0.attrs) p.0 p.1.2
-          ∙ sym (ap (λ (o : Option Member). held_at (instrs_of (o >>= λ m. code_of m.attrs)) p.0) p.1.1);
-    }
+    passes_typed p = record { states = p.0; checks = p.1; are = are_found p.0 p.1 }
+
+    -- there are no others
+    pub typed_only : (frames : List MapFrame) → IsTyped h t place frames → frames ≡ frames_at h t place
+    typed_only frames is = is.are ∙ sym (are_found is.states is.checks)
 
     none_with : (o : Option Member) → (o >>= λ m. code_of m.attrs) ≡ None → unwrap_or (o >>= entry_of h t) [] ≡ []
     none_with None e = refl

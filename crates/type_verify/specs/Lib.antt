@@ -4,3 +4,4 @@ pub mod Outcomes
 pub mod Verdicts
 pub mod Typing
 pub mod Recomputing
+pub mod Laws

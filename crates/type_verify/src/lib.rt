@@ -8,6 +8,7 @@ mod checker;
 mod code;
 mod expanding;
 mod flow;
+mod laws;
 #[cfg(test)]
 mod tests;
 mod typed;
@@ -15,5 +16,6 @@ mod verify;
 mod walk;
 
 pub use expanding::expand;
+pub use laws::typed_laws;
 pub use typed::{Typed, TypedCode, verify_class, verify_method};
 pub use verify::{VerifyFault, check_class, check_method};
