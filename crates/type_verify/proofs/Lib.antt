@@ -6,3 +6,6 @@ pub mod Named
 pub mod Checked
 pub mod Beginning
 pub mod Judged
+pub mod NoInstrs
+pub mod Passing
+pub mod Gathering

@@ -14,7 +14,7 @@ use Rattle.type_frames.proofs.StateLaws.{agree}
 use Rattle.type_frames.proofs.Sizes.{rule_keeps_locals}
 use Rattle.type_verify.specs.Walking.{are_handled, are_accepted, goes_on, passed, entered, stepped, IsReached, Walked}
 
-some_is : {A : Type 0} {x y : A} → Some x ≡ Some y → x ≡ y
+pub some_is : {A : Type 0} {x y : A} → Some x ≡ Some y → x ≡ y
 some_is e = cc
 
 -- ---- one state more
@@ -116,7 +116,7 @@ given_by m states (suc before) at s state reached e = later (mapped m at) e
 
 -- ---- going on
 
-reached_next : (m : Checked) (states : List State) (place : ℕ) (left : State) → left_at m states place ≡ Some left → IsReached m states (place + 1) left
+pub reached_next : (m : Checked) (states : List State) (place : ℕ) (left : State) → left_at m states place ≡ Some left → IsReached m states (place + 1) left
 reached_next m states place left e = subst (λ (k : ℕ). IsReached m states k left) (sym (add-one place)) e
 
 pub walked_more : (m : Checked) (states : List State) (place : ℕ) (s state left : State) (p : ℕ × Instr) → Walked m states place s → slice_get m.env.instrs place ≡ Some p
@@ -283,7 +283,7 @@ enter_is : (m : Checked) (place at : ℕ) (s : State) → entered m place at s �
 enter_is m zero at s = refl
 enter_is m (suc before) at s = refl
 
-entered_room : (m : Checked) (frames : List MapFrame) (place at : ℕ) (s state : State) → m.map ≡ Ok frames → All (λ f. length f.locals ≡ m.max_locals) frames → length s.locals ≡ m.max_locals
+pub entered_room : (m : Checked) (frames : List MapFrame) (place at : ℕ) (s state : State) → m.map ≡ Ok frames → All (λ f. length f.locals ≡ m.max_locals) frames → length s.locals ≡ m.max_locals
     → entered m place at s ≡ Some state → length state.locals ≡ m.max_locals
 entered_room m frames place at s state map rooms room e =
     by place (mapped m at) (ap (λ (r : Result (List MapFrame) ℕ). find (λ f. f.at == at) (map_frames r) >>= λ f. Some (state_of f)) map) (sym (enter_is m place at s) ∙ e)

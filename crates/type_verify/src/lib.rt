@@ -2,11 +2,13 @@
 //! where they fail first.
 #![tactic(auto)]
 
+mod again;
 #[cfg(test)]
 mod assembling;
 mod begin;
 mod checker;
 mod code;
+mod expanding;
 #[cfg(test)]
 mod fixture_tests;
 #[cfg(test)]
@@ -16,6 +18,7 @@ mod flow;
 mod flow_tests;
 #[cfg(test)]
 mod large_tests;
+mod laws;
 #[cfg(test)]
 mod method_tests;
 #[cfg(test)]
@@ -24,9 +27,13 @@ mod object_tests;
 mod rule_tests;
 #[cfg(test)]
 mod tests;
+mod typed;
 mod verify;
 mod walk;
 #[cfg(test)]
 mod words;
 
+pub use expanding::expand;
+pub use laws::typed_laws;
+pub use typed::{Typed, TypedCode, verify_class, verify_method};
 pub use verify::{VerifyFault, check_class, check_method};
