@@ -1,0 +1,15 @@
+pub mod Jobs
+pub mod Core
+pub mod Trace
+pub mod Codes
+pub mod CallNames
+pub mod Events
+pub mod Environments
+pub mod Chains
+pub mod Versions
+pub mod Linked
+pub mod FrameCode
+pub mod Logs
+pub mod Tags
+pub mod Places
+pub mod Acts
