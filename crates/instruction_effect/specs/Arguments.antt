@@ -1,6 +1,7 @@
 -- What a call takes from the stack, and the frame that it pushes (JVM specification 2.6, 4.3.3 and 6.5).
 use Rattle.std.specs.Prelude.{ℕ, ◌+◌, ◌-◌, Bool, true, false, ◌&&◌, ◌||◌, ◌==◌, nat_le, nat_lt, pos, List, [], ◌∷◌, ◌++◌, length, map, reverse, take, drop, replicate, flat_map, Option, Some, None, option_map, unwrap_or, if◌then◌else◌}
 use Rattle.std.specs.Option.{option_and_then}
+use Rattle.ti_ids.specs.Maybe.{◌>>=◌}
 use Rattle.ti_ids.specs.declared.number.MethodNo.{MethodNo}
 use Rattle.ti_ids.specs.declared.value.Value.{Value}
 use Rattle.ti_ids.specs.declared.value.Value.TheVariants as value
@@ -18,14 +19,19 @@ use Rattle.thread_frames.specs.Operands.{OperandStack}
 use Rattle.thread_frames.specs.Frame.{new_frame, frame_words}
 use Rattle.thread_frames.specs.ThreadStack.{most_frames, most_words, stack_words}
 use Rattle.bytecode_local.specs.Kinds.{is_kind}
-use Rattle.link_versions.specs.Classes.{Class, newest_version, version_at}
+use Rattle.link_versions.specs.Classes.{Class, class_at, newest_version, version_at}
 use Rattle.link_versions.specs.Members.{method_name, method_desc}
 use Rattle.link_versions.specs.ReadyCode.{method_in}
 use Rattle.machine_state.specs.Core.{MethodFrame, StackFrame}
+use Rattle.machine_state.specs.Trace.{MethodName}
 use Rattle.machine_state.specs.Acts.{Act, Changes, SetsTop}
 use Rattle.instruction_effect.specs.Outcomes.{Site, Outcome, or_misfit}
 
--- ---- descriptors
+-- ---- names and descriptors
+
+-- the class, the name and the descriptor of a method
+abbrev pub name_of_method : List Class → MethodNo → Option MethodName
+name_of_method classes m = class_at classes m.class >>= λ c. method_name classes m >>= λ name. method_desc classes m >>= λ desc. Some (record { class = c.name; name = name; desc = desc })
 
 -- table 4.3-A and section 2.11.1: what holds a value of a type
 abbrev pub element_kind : ElementType → Kind

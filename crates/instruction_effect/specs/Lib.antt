@@ -4,3 +4,10 @@ pub mod Arguments
 pub mod ClassObjects
 pub mod Invoking
 pub mod Returns
+pub mod BaseForms
+pub mod BaseObjects
+pub mod BaseTexts
+pub mod BaseThreads
+pub mod BaseMethods
+pub mod Calls
+pub mod CallEntry

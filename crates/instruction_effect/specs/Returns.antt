@@ -19,13 +19,7 @@ use Rattle.machine_state.specs.Core.{MethodFrame, StackFrame, monitor_at}
 use Rattle.machine_state.specs.Trace.{MethodName, MethodExit, FramePop, Returned}
 use Rattle.machine_state.specs.Acts.{Act, Changes, Leaves, Pops, SetsTop, raises}
 use Rattle.instruction_effect.specs.Outcomes.{Site, Outcome, Goes, Throws, misfit, or_misfit}
-use Rattle.instruction_effect.specs.Arguments.{result_kind}
-
--- ---- names
-
--- the class, the name and the descriptor of the method of a frame
-abbrev pub name_of_frame : List Class → MethodFrame → Option MethodName
-name_of_frame classes frame = class_at classes frame.class >>= λ c. method_name classes frame.method >>= λ name. method_desc classes frame.method >>= λ desc. Some (record { class = c.name; name = name; desc = desc })
+use Rattle.instruction_effect.specs.Arguments.{name_of_method, result_kind}
 
 -- ---- the result
 
@@ -112,4 +106,4 @@ returns_named behind site returned m = or_misfit (result_of site returned m) (λ
     or_misfit (handed_to behind site.t result (beneath site)) (λ handing. leaving site (popping site m handing)))
 
 abbrev pub returns : (MethodFrame → Option ℕ) → Site → Option Kind → Outcome
-returns behind site returned = or_misfit (name_of_frame site.classes site.frame) (returns_named behind site returned)
+returns behind site returned = or_misfit (name_of_method site.classes site.frame.method) (returns_named behind site returned)
