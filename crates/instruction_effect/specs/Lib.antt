@@ -1,2 +1,4 @@
 pub mod Outcomes
 pub mod Monitors
+pub mod Operands
+pub mod Fields
