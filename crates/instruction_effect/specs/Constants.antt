@@ -1,7 +1,6 @@
 -- The constants of `ldc` and `ldc_w` that are objects (JVM specification 5.1 and 6.5): the String of a text, and the Class object of a
 -- class. Where code is made ready for running, loads of numbers have become pushes.
-use Rattle.std.specs.Prelude.{ℕ, List, [], Option, Some, None, codes}
-use Rattle.ti_ids.specs.Maybe.{◌>>=◌}
+use Rattle.std.specs.Prelude.{ℕ, List, [], Some, None, codes}
 use Rattle.ti_ids.specs.declared.number.ThreadNo.{ThreadNo}
 use Rattle.ti_ids.specs.declared.number.ObjNo.{ObjNo}
 use Rattle.ti_ids.specs.declared.number.ClassNo.{ClassNo}

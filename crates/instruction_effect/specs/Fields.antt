@@ -10,7 +10,6 @@ use Rattle.ti_ids.specs.declared.value.Value.{Value}
 use Rattle.jv_names.specs.Names.{Name}
 use Rattle.class_code.specs.declared.instr.Kind.{Kind}
 use Rattle.class_code.specs.declared.instr.Kind.TheVariants as kind
-use Rattle.class_code.specs.declared.instr.PoolOp.{PoolOp}
 use Rattle.class_code.specs.declared.instr.PoolOp.TheVariants as pool_op
 use Rattle.class_code.specs.declared.instr.Instr.{Instr}
 use Rattle.class_code.specs.declared.instr.Instr.TheVariants as instr
@@ -148,12 +147,12 @@ write_instance site acts field =
     goes site (acts ++ Changes (PutsField object place v) ∷ []) (exchange 2 []))))))
 
 -- The class that declares a static field must be initialized before anything else of it is looked at.
-abbrev pub field_outcome : Site → PoolOp → ℕ → Outcome
-field_outcome site pool_op.GetStatic index = when_resolved site index (λ there acts field. when_ready there field.class (read_static there acts field))
-field_outcome site pool_op.PutStatic index = when_resolved site index (λ there acts field. when_ready there field.class (write_static there acts field))
-field_outcome site pool_op.GetField index = when_resolved site index read_instance
-field_outcome site pool_op.PutField index = when_resolved site index write_instance
-field_outcome site op index = misfit
+abbrev pub field_outcome : Site → Instr → Outcome
+field_outcome site (instr.Pool pool_op.GetStatic index) = when_resolved site index (λ there acts field. when_ready there field.class (read_static there acts field))
+field_outcome site (instr.Pool pool_op.PutStatic index) = when_resolved site index (λ there acts field. when_ready there field.class (write_static there acts field))
+field_outcome site (instr.Pool pool_op.GetField index) = when_resolved site index read_instance
+field_outcome site (instr.Pool pool_op.PutField index) = when_resolved site index write_instance
+field_outcome site i = misfit
 
 -- ---- the field that an instruction uses, for the events of JVM TI ("Field Access", "Field Modification")
 

@@ -5,3 +5,5 @@ pub mod Fields
 pub mod Constants
 pub mod Division
 pub mod Objects
+pub mod NewArrays
+pub mod Arrays
