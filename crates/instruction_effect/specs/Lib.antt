@@ -5,3 +5,7 @@ pub mod Fields
 pub mod Constants
 pub mod Division
 pub mod Objects
+pub mod Arguments
+pub mod ClassObjects
+pub mod Invoking
+pub mod Returns
