@@ -49,15 +49,19 @@ unselected acts _ = abstract_method acts
 abbrev pub pushed : Site → Call → MethodFrame → List Act → Outcome
 pushed site call frame acts = Goes (call.before ++ acts ++ call.taking ++ Changes (Pushes site.t frame) ∷ [])
 
+-- the frame, which remembers the monitor that was entered for it
+abbrev pub with_monitor : ObjNo → MethodFrame → MethodFrame
+with_monitor object frame = record frame { pin = record { birth = frame.pin.birth; monitor = Some object } }
+
 -- A synchronized method enters the monitor of its receiver, and a static one that of its class's Class object, which may have to be
 -- made.
 abbrev pub entered_receiver : Site → Call → MethodFrame → List Value → Outcome
-entered_receiver site call frame (value.Ref (Some object) ∷ arguments) = entering site object (pushed site call frame)
+entered_receiver site call frame (value.Ref (Some object) ∷ arguments) = entering site object (pushed site call (with_monitor object frame))
 entered_receiver site call frame _ = misfit
 
 abbrev pub entered_class : Site → Call → MethodFrame → Outcome
 entered_class site call frame =
-    when_class_object site call.before call.method.class (λ made object. entering site object (λ acts. pushed site (record call { before = made }) frame acts))
+    when_class_object site call.before call.method.class (λ made object. entering site object (λ acts. pushed site (record call { before = made }) (with_monitor object frame) acts))
 
 abbrev pub synchronized : Site → Call → MethodFrame → Outcome
 synchronized site call frame =
