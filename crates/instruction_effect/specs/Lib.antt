@@ -7,3 +7,7 @@ pub mod Division
 pub mod Objects
 pub mod NewArrays
 pub mod Arrays
+pub mod Arguments
+pub mod ClassObjects
+pub mod Invoking
+pub mod Returns
