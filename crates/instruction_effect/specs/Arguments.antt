@@ -22,7 +22,7 @@ use Rattle.bytecode_local.specs.Kinds.{is_kind}
 use Rattle.link_versions.specs.Classes.{Class, class_at, newest_version, version_at}
 use Rattle.link_versions.specs.Members.{method_name, method_desc}
 use Rattle.link_versions.specs.ReadyCode.{method_in}
-use Rattle.machine_state.specs.Core.{MethodFrame, StackFrame}
+use Rattle.machine_state.specs.Core.{Pin, MethodFrame, StackFrame}
 use Rattle.machine_state.specs.Trace.{MethodName}
 use Rattle.machine_state.specs.Acts.{Act, Changes, SetsTop}
 use Rattle.instruction_effect.specs.Outcomes.{Site, Outcome, or_misfit}
@@ -104,9 +104,13 @@ abbrev pub newest_body : List Class → MethodNo → Option Code
 newest_body classes m =
     option_and_then (λ member. code_of member.attrs) (option_and_then (λ t. method_in t (method_name classes m) (method_desc classes m)) (version_at classes (newest_version classes m.class)))
 
--- the frame of a method with this body; it gets its birth when it is pushed
+-- what a frame is pinned to before it is pushed, which gives it its birth
+abbrev pub unborn : Pin
+unborn = record { birth = 0; monitor = None }
+
+-- the frame of a method with this body
 abbrev pub frame_of : MethodNo → Code → List Value → MethodFrame
-frame_of m body values = new_frame m.class m 0 (filled body.max_locals (flat_map places_of values)) body.max_stack
+frame_of m body values = new_frame m.class m unborn (filled body.max_locals (flat_map places_of values)) body.max_stack
 
 -- the local variables that values take are more than a body has
 abbrev pub overflows : Code → List Value → Bool

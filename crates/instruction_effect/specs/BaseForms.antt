@@ -1,6 +1,6 @@
 -- The forms in which the methods of the base classes say what they do. A base method is performed inside the step of its invocation and
 -- has no frame.
-use Rattle.std.specs.Prelude.{Bool, false, ◌==◌, Some, List, [], ◌∷◌, ◌++◌, length, codes, if◌then◌else◌}
+use Rattle.std.specs.Prelude.{false, ◌==◌, Some, List, [], ◌∷◌, ◌++◌, length, codes, if◌then◌else◌}
 use Rattle.std.specs.Option.{option_map_or}
 use Rattle.ti_ids.specs.declared.number.ObjNo.{ObjNo}
 use Rattle.ti_ids.specs.declared.number.ClassNo.{ClassNo}

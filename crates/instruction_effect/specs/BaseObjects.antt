@@ -1,5 +1,5 @@
 -- What the methods of Object and of Throwable do (the packages of the Java library, `java.lang`; the language, 17.2).
-use Rattle.std.specs.Prelude.{Bool, true, false, ◌==◌, ℤ, pos, List, [], ◌∷◌, ◌++◌, Option, Some, None, unwrap_or, codes, if◌then◌else◌}
+use Rattle.std.specs.Prelude.{Bool, true, false, ◌==◌, pos, List, [], ◌∷◌, ◌++◌, Option, Some, None, codes}
 use Rattle.ti_ids.specs.declared.number.ObjNo.{ObjNo}
 use Rattle.ti_ids.specs.declared.number.ClassNo.{ClassNo}
 use Rattle.ti_ids.specs.declared.value.Value.{Value}

@@ -1,6 +1,6 @@
 -- What the methods of String, StringBuilder and PrintStream do (the Java library, `java.lang` and `java.io`). A text is the list of its
 -- UTF-16 units.
-use Rattle.std.specs.Prelude.{ℕ, ◌+◌, Bool, true, false, ◌&&◌, ◌==◌, nat_le, ℤ, pos, negsuc, List, [], ◌∷◌, ◌++◌, length, map, slice_get, Option, Some, None, unwrap_or, option_map, bytes_eq, encode_utf8_all, codes, if◌then◌else◌}
+use Rattle.std.specs.Prelude.{ℕ, ◌+◌, false, ◌==◌, nat_le, ℤ, pos, negsuc, List, [], ◌∷◌, ◌++◌, length, map, slice_get, Option, Some, None, unwrap_or, bytes_eq, encode_utf8_all, codes, if◌then◌else◌}
 use Rattle.std.specs.Option.{option_map_or}
 use Rattle.std.specs.Ordering.{int_eq}
 use Rattle.std.specs.Fmt.{signed_decimal}

@@ -1,6 +1,6 @@
 -- The entry of a thread: what a thread that has begun does first, without a frame. That of thread 1 calls `main` (JVM specification 5.2),
 -- that of a later thread `run` of its Thread object (the Java library, `java.lang.Thread`).
-use Rattle.std.specs.Prelude.{ℕ, Bool, List, [], ◌∷◌, ◌++◌, Option, Some, None, codes, if◌then◌else◌}
+use Rattle.std.specs.Prelude.{◌==◌, List, [], ◌∷◌, Option, Some, None, codes, if◌then◌else◌}
 use Rattle.std.specs.Option.{option_and_then}
 use Rattle.ti_ids.specs.declared.number.ObjNo.{ObjNo}
 use Rattle.ti_ids.specs.declared.number.ThreadNo.{ThreadNo}
@@ -17,6 +17,7 @@ use Rattle.link_versions.specs.Members.{declared_method, method_has}
 use Rattle.machine_state.specs.Core.{Core, Thread}
 use Rattle.machine_state.specs.Acts.{Act, Changes, SetsState, core_after}
 use Rattle.instruction_effect.specs.Outcomes.{Site, Outcome, Goes, when_loaded, when_ready, when_room, makes_announced}
+use Rattle.instruction_effect.specs.Arguments.{unborn}
 use Rattle.instruction_effect.specs.Invoking.{abstract_method, no_method, unselected, calls}
 use Rattle.instruction_effect.specs.BaseThreads.{Run, Nothing, Runs, Lacks, run_at, calls_run}
 
@@ -29,7 +30,7 @@ entry_site core classes t thread = record {
   classes = classes;
   t = t;
   thread = thread;
-  frame = new_frame (record { 0 = 0 }) (record { class = record { 0 = 0 }; place = 0 }) 0 [] 0;
+  frame = new_frame (record { 0 = 0 }) (record { class = record { 0 = 0 }; place = 0 }) unborn [] 0;
   pool = [];
   next = 0;
 }
@@ -84,3 +85,11 @@ enters_run site (Runs object m) = calls_run site [] (is_entered site.t) object m
 -- `run` is selected for its Thread object. That of Thread itself runs the target.
 abbrev pub enters_later : Site → Outcome
 enters_later site = enters_run site (run_at site site.thread.object)
+
+-- ---- the whole
+
+abbrev pub entry_at : Site → Name → Outcome
+entry_at site main = if site.t.0 == 1 then enters_first site main else enters_later site
+
+abbrev pub entry_outcome : Core → List Class → ThreadNo → Thread → Name → Outcome
+entry_outcome core classes t thread main = entry_at (entry_site core classes t thread) main

@@ -1,8 +1,7 @@
 -- `invokestatic`, `invokevirtual`, `invokespecial` and `invokeinterface` (JVM specification 5.4.3.3, 5.4.3.4 and 6.5).
-use Rattle.std.specs.Prelude.{ℕ, Bool, true, false, not, ◌&&◌, ◌||◌, List, [], ◌∷◌, drop, Option, Some, None, option_map, unwrap_or, Result, Ok, Err, bytes_eq, codes, if◌then◌else◌}
+use Rattle.std.specs.Prelude.{ℕ, Bool, true, false, not, ◌&&◌, ◌||◌, List, ◌∷◌, drop, Option, Some, None, option_map, unwrap_or, Result, Ok, Err, bytes_eq, codes, if◌then◌else◌}
 use Rattle.std.specs.List.{list_any}
 use Rattle.std.specs.Option.{option_and_then, option_or, option_zip}
-use Rattle.ti_ids.specs.declared.number.ObjNo.{ObjNo}
 use Rattle.ti_ids.specs.declared.number.ClassNo.{ClassNo}
 use Rattle.ti_ids.specs.declared.number.MethodNo.{MethodNo}
 use Rattle.ti_ids.specs.declared.value.Value.{Value}
@@ -21,7 +20,7 @@ use Rattle.link_versions.specs.Subtypes.{is_subclass}
 use Rattle.link_versions.specs.declared.fault.LinkFault.{LinkFault}
 use Rattle.link_versions.specs.Resolution.{resolved_method, from_object, unless_abstract, concrete_ones, sole_of, sole_or_fault, selected}
 use Rattle.machine_state.specs.Acts.{Act}
-use Rattle.instruction_effect.specs.Outcomes.{Site, Outcome, Throws, misfit, or_misfit, when_linked, when_ready}
+use Rattle.instruction_effect.specs.Outcomes.{Site, Outcome, Throws, misfit, or_misfit, when_ready}
 use Rattle.instruction_effect.specs.Operands.{when_there}
 use Rattle.instruction_effect.specs.Arguments.{static_kinds, instance_kinds, when_arguments, takes_arguments}
 use Rattle.instruction_effect.specs.Invoking.{incompatible, abstract_method, no_method, unselected, calls}

@@ -1,5 +1,5 @@
 -- The Class object of a class, which is made when it is first needed.
-use Rattle.std.specs.Prelude.{List, [], ◌∷◌, Option, Some, None, codes}
+use Rattle.std.specs.Prelude.{List, Some, None, codes}
 use Rattle.ti_ids.specs.declared.number.ObjNo.{ObjNo}
 use Rattle.ti_ids.specs.declared.number.ClassNo.{ClassNo}
 use Rattle.java_heap.specs.declared.object.Content.TheVariants.{ClassObject}

@@ -1,12 +1,10 @@
 -- The invocation of a method that has a frame (JVM specification 2.5.2, 2.6, 2.11.10 and 6.5): its frame is pushed, and before that
 -- the monitor of a synchronized method is entered.
-use Rattle.std.specs.Prelude.{Bool, List, [], ◌∷◌, ◌++◌, Option, Some, None, codes, if◌then◌else◌}
-use Rattle.std.specs.Option.{option_map_or}
+use Rattle.std.specs.Prelude.{List, [], ◌∷◌, ◌++◌, Some, codes, if◌then◌else◌}
 use Rattle.ti_ids.specs.declared.number.ObjNo.{ObjNo}
 use Rattle.ti_ids.specs.declared.number.MethodNo.{MethodNo}
 use Rattle.ti_ids.specs.declared.value.Value.{Value}
 use Rattle.ti_ids.specs.declared.value.Value.TheVariants as value
-use Rattle.jv_names.specs.Names.{Name}
 use Rattle.class_tree.specs.declared.access.Flag.TheVariants as flags
 use Rattle.class_tree.specs.declared.body.Code.{Code}
 use Rattle.link_versions.specs.declared.fault.LinkFault.{LinkFault}
@@ -49,15 +47,19 @@ unselected acts _ = abstract_method acts
 abbrev pub pushed : Site → Call → MethodFrame → List Act → Outcome
 pushed site call frame acts = Goes (call.before ++ acts ++ call.taking ++ Changes (Pushes site.t frame) ∷ [])
 
+-- the frame, which remembers the monitor that was entered for it
+abbrev pub with_monitor : ObjNo → MethodFrame → MethodFrame
+with_monitor object frame = record frame { pin = record { birth = frame.pin.birth; monitor = Some object } }
+
 -- A synchronized method enters the monitor of its receiver, and a static one that of its class's Class object, which may have to be
 -- made.
 abbrev pub entered_receiver : Site → Call → MethodFrame → List Value → Outcome
-entered_receiver site call frame (value.Ref (Some object) ∷ arguments) = entering site object (pushed site call frame)
+entered_receiver site call frame (value.Ref (Some object) ∷ arguments) = entering site object (pushed site call (with_monitor object frame))
 entered_receiver site call frame _ = misfit
 
 abbrev pub entered_class : Site → Call → MethodFrame → Outcome
 entered_class site call frame =
-    when_class_object site call.before call.method.class (λ made object. entering site object (λ acts. pushed site (record call { before = made }) frame acts))
+    when_class_object site call.before call.method.class (λ made object. entering site object (λ acts. pushed site (record call { before = made }) (with_monitor object frame) acts))
 
 abbrev pub synchronized : Site → Call → MethodFrame → Outcome
 synchronized site call frame =

@@ -1,5 +1,12 @@
 pub mod Outcomes
 pub mod Monitors
+pub mod Operands
+pub mod Fields
+pub mod Constants
+pub mod Division
+pub mod Objects
+pub mod NewArrays
+pub mod Arrays
 pub mod Arguments
 pub mod ClassObjects
 pub mod Invoking

@@ -1,24 +1,19 @@
 -- `ireturn`, `lreturn`, `areturn` and `return` (JVM specification 2.6.4, 2.11.10 and 6.5), and what JVM TI hears of them ("Method Exit",
 -- "Frame Pop"). A result isn't narrowed to the method's type.
-use Rattle.std.specs.Prelude.{ℕ, Bool, true, false, ◌==◌, List, [], ◌∷◌, ◌++◌, drop, slice_get, Option, Some, None, option_map, codes, if◌then◌else◌}
-use Rattle.std.specs.Option.{option_and_then, option_map_or, option_to_list}
-use Rattle.ti_ids.specs.Maybe.{◌>>=◌}
+use Rattle.std.specs.Prelude.{ℕ, Bool, true, false, ◌==◌, List, [], ◌∷◌, ◌++◌, drop, Option, Some, None, option_map, codes, if◌then◌else◌}
+use Rattle.std.specs.Option.{option_map_or}
 use Rattle.ti_ids.specs.declared.number.ThreadNo.{ThreadNo}
 use Rattle.ti_ids.specs.declared.number.ObjNo.{ObjNo}
 use Rattle.ti_ids.specs.declared.value.Value.{Value}
 use Rattle.class_code.specs.declared.instr.Kind.{Kind}
 use Rattle.class_code.specs.declared.instr.Kind.TheVariants as kind
-use Rattle.class_tree.specs.declared.access.Flag.TheVariants as flags
-use Rattle.java_heap.specs.Heaps.{class_object_of}
 use Rattle.thread_frames.specs.declared.frame.StackEntry.TheVariants.{Java, Init}
 use Rattle.bytecode_local.specs.Changes.{exchange, takes, changed}
-use Rattle.bytecode_local.specs.Kinds.{kind_at, reference_of}
-use Rattle.link_versions.specs.Classes.{Class, class_at}
-use Rattle.link_versions.specs.Members.{method_name, method_desc, method_has}
+use Rattle.bytecode_local.specs.Kinds.{kind_at}
 use Rattle.machine_state.specs.Core.{MethodFrame, StackFrame, monitor_at}
 use Rattle.machine_state.specs.Trace.{MethodName, MethodExit, FramePop, Returned}
 use Rattle.machine_state.specs.Acts.{Act, Changes, Leaves, Pops, SetsTop, raises}
-use Rattle.instruction_effect.specs.Outcomes.{Site, Outcome, Goes, Throws, misfit, or_misfit}
+use Rattle.instruction_effect.specs.Outcomes.{Site, Outcome, Goes, Throws, or_misfit}
 use Rattle.instruction_effect.specs.Arguments.{name_of_method, result_kind}
 
 -- ---- the result
@@ -45,36 +40,19 @@ result_of site returned m = handed_on site returned (result_kind m.desc)
 abbrev pub beneath : Site → List StackFrame
 beneath site = drop 1 site.thread.frames
 
--- The frame of a class's `<clinit>` lies on the initialization that pushed it, as that of a method that isn't synchronized.
-abbrev pub is_initializer : List StackFrame → Bool
-is_initializer [] = false
-is_initializer (Java caller ∷ rest) = false
-is_initializer (Init class ∷ rest) = true
-
--- the monitor of a synchronized method: of its class's Class object, or of what local variable 0 refers to
-abbrev pub receiver_of : MethodFrame → Option ObjNo
-receiver_of frame = slice_get frame.locals 0 >>= reference_of >>= λ reference. reference
-
-abbrev pub monitor_of : Site → Option ObjNo
-monitor_of site =
-    if method_has site.classes flags.Static site.frame.method then class_object_of site.core.heap site.frame.class else receiver_of site.frame
-
-abbrev pub has_monitor : Site → Bool
-has_monitor site = if is_initializer (beneath site) then false else method_has site.classes flags.Synchronized site.frame.method
-
 abbrev pub owns : Site → ObjNo → Bool
 owns site object = option_map_or (λ owner. owner.0 == site.t.0) (monitor_at site.core object).owner false
 
--- A synchronized method gives up its monitor. A thread that doesn't own it throws.
+-- A synchronized method gives up the monitor that was entered for it. A thread that doesn't own it any more throws.
 abbrev pub not_owner : Outcome
 not_owner = Throws [] (codes "java/lang/IllegalMonitorStateException")
 
 abbrev pub given_up : Site → Option ObjNo → (List Act → Outcome) → Outcome
-given_up site None so = not_owner
+given_up site None so = so []
 given_up site (Some object) so = if owns site object then so (Changes (Leaves object) ∷ []) else not_owner
 
 abbrev pub leaving : Site → (List Act → Outcome) → Outcome
-leaving site so = if has_monitor site then given_up site (monitor_of site) so else so []
+leaving site so = given_up site site.frame.pin.monitor so
 
 -- ---- the caller
 
@@ -93,7 +71,7 @@ handed_to behind t result (Java caller ∷ rest) = caller_goes_on t caller resul
 -- ---- the whole
 
 abbrev pub exit_events : Site → MethodName → List Act
-exit_events site m = raises (MethodExit site.t m Returned) ∷ raises (FramePop site.t m Returned site.frame.pin) ∷ []
+exit_events site m = raises (MethodExit site.t m Returned) ∷ raises (FramePop site.t m Returned site.frame.pin.birth) ∷ []
 
 -- The monitor is given up, the frame popped, and the caller goes on.
 abbrev pub popping : Site → MethodName → List Act → List Act → Outcome

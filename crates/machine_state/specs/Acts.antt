@@ -82,6 +82,10 @@ statics_with field v core = record core { statics = record { field = field; valu
 abbrev pub new_thread : ObjNo → Thread
 new_thread object = record { object = object; state = Unbegun; activity = Free; frames = [] }
 
+-- a frame that is pushed with this birth
+abbrev pub born_at : ℕ → MethodFrame → MethodFrame
+born_at birth frame = record frame { pin = record { birth = birth; monitor = frame.pin.monitor } }
+
 -- a list of numbers with one more at a place, counted from 1
 abbrev pub counted_up : List ℕ → ℕ → List ℕ
 counted_up [] place = []
@@ -106,7 +110,7 @@ changed birth (TakesBack object t) core = with_monitor (taken_back t) object cor
 changed birth (Prints bytes) core = record core { output = core.output ++ bytes }
 changed birth (SetsTop t frame) core = with_frames (replaced frame) t core
 changed birth (Pops t) core = with_frames popped t core
-changed birth (Pushes t frame) core = with_frames (pushed (Java (record frame { pin = birth }))) t core
+changed birth (Pushes t frame) core = with_frames (pushed (Java (born_at birth frame))) t core
 changed birth (PushesInit t class) core = with_frames (pushed (Init class)) t core
 changed birth (SetsState t state) core = with_thread (λ thread. record thread { state = state }) t core
 changed birth (SetsActivity t activity) core = with_thread (λ thread. record thread { activity = activity }) t core

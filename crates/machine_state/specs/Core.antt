@@ -26,14 +26,19 @@ use Rattle.machine_state.specs.Jobs.{Call, counted}
 
 -- ---- frames
 
--- Section 2.6: the frame of a method. Where a leaf's frame has a pin stands the frame's birth: the length of the trace when the step
--- that pushed it had ended. It holds no code: that is what the class was at the birth.
+-- What a frame is pinned to: its birth, which is the length of the trace when the step that pushed it had ended, and the object whose
+-- monitor was entered for a synchronized method (section 2.11.10).
+pub record Pin : Type 0 where
+  pub birth : ℕ
+  pub monitor : Option ObjNo
+
+-- Section 2.6: the frame of a method. It holds no code: that is what the class was at the birth.
 abbrev pub MethodFrame : Type 0
-MethodFrame = Frame ℕ
+MethodFrame = Frame Pin
 
 -- the frame of a method, or the initialization of a class
 abbrev pub StackFrame : Type 0
-StackFrame = StackEntry ℕ
+StackFrame = StackEntry Pin
 
 -- ---- threads
 

@@ -19,7 +19,7 @@ use Rattle.machine_state.specs.Linked.{linked}
 module _ (job : Job) (turns : Turns) (trace : Trace) (classes : List CoreClass) where
   -- the classes as they were at a frame's birth
   abbrev pub classes_at_birth : MethodFrame → List Class
-  classes_at_birth f = linked job turns (take f.pin trace) classes
+  classes_at_birth f = linked job turns (take f.pin.birth trace) classes
 
   -- the tree of the version that was newest then
   abbrev pub tree_of_frame : MethodFrame → Option Tree

@@ -13,3 +13,5 @@ pub mod Logs
 pub mod Tags
 pub mod Places
 pub mod Acts
+pub mod Equivalence
+pub mod Obsolete

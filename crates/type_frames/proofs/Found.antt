@@ -19,7 +19,7 @@ abbrev Entry : Type 0
 Entry = Vec ℕ Global × HierarchyClass
 
 -- a text is another one either way round
-turned : (a b : Name) → bytes_eq a b ≡ bytes_eq b a
+pub turned : (a b : Name) → bytes_eq a b ≡ bytes_eq b a
 turned a b = same_from_decides (bytes_eq a b) (bytes_eq b a) (bytes_eq-Decides a b) ((λ e. sym ((bytes_eq-Decides b a).0 e)), λ e. (bytes_eq-Decides b a).1 (sym e))
 
 pub named-lookup : (name : Name) (entries : List Entry) → AreKeyed entries → lookup (λ k. bytes_eq name k.items) entries ≡ class_named (values_of entries) name

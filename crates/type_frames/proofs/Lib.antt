@@ -9,3 +9,4 @@ pub mod Fitting
 pub mod Formed
 pub mod Examples
 pub mod Sizes
+pub mod Stating

@@ -14,6 +14,7 @@ pub mod RulesOfCalls
 pub mod Rules
 pub mod TypeChecks
 pub mod Keyed
+pub mod Stated
 pub mod Laws
 pub mod Bases
 pub mod Seen

@@ -3,7 +3,8 @@
 //!
 //! The definitions in `specs/` are in the order of `specs/Lib.antt`: types (`Types`), classes (`Hierarchies`), which type may
 //! stand for which (`Assignable`), type states (`States`), stack maps (`StackMaps`), the rules of the instructions by family
-//! (`RulesOf..`, joined in `Rules`), and what the type check of a method and of a class is (`TypeChecks`).
+//! (`RulesOf..`, joined in `Rules`), what the type check of a method and of a class is (`TypeChecks`), and which classes class files
+//! state to it (`Stated`).
 #![tactic(auto)]
 
 mod assigning;
@@ -14,6 +15,7 @@ mod hierarchy;
 mod known;
 mod laws;
 mod seen;
+mod stated;
 #[cfg(test)]
 mod tests;
 mod vtype;
@@ -26,4 +28,5 @@ pub use hierarchy::{HierarchyClass, Signature};
 pub use known::Hierarchy;
 pub use laws::type_laws;
 pub use seen::{ClassName, VTypeRef};
+pub use stated::stated_class;
 pub use vtype::VType;

@@ -9,3 +9,4 @@ pub mod Mapping
 pub mod Found
 pub mod Steps
 pub mod Loads
+pub mod Given

@@ -7,6 +7,7 @@
 
 mod accepting;
 mod entry;
+mod giving;
 mod kinds;
 mod loading;
 mod locals;

@@ -21,11 +21,11 @@ use type_frames::{MapFault, VTypeRef};
 /// What the stack map of a method is read against: the constant pool, the words of its locals and of its stack, and its
 /// instructions.
 #[derive(Clone, Copy)]
-pub struct MapBounds<'a> {
+pub struct MapBounds<'a, 'i> {
     pub pool: &'a [Const],
     pub max_locals: u16,
     pub max_stack: u16,
-    pub instrs: &'a [(u16, Instr)],
+    pub instrs: &'i [(u16, Instr)],
 }
 
 /// Puts types behind those of a list, and answers the place of the list with them.
@@ -194,7 +194,7 @@ fn begun_at(instrs: &[(u16, Instr)], at: u32) -> Option<u16>
 /// What is held of the next entry, if it is a good one.
 fn entry_after<'a>(
     lists: &mut TypeLists<'a>,
-    bounds: MapBounds<'a>,
+    bounds: MapBounds<'a, '_>,
     last: Option<u16>,
     before: usize,
     entry: &'a StackMapFrame,
@@ -238,7 +238,7 @@ impl<'a> StackMap<'a> {
     /// is listed, and to find an instruction by halving.
     pub fn read(
         alloc: Global,
-        bounds: MapBounds<'a>,
+        bounds: MapBounds<'a, '_>,
         first: &[VTypeRef<'a>],
         entries: &'a [StackMapFrame],
     ) -> Result<StackMap<'a>, MapFault>

@@ -6,3 +6,4 @@ pub mod Named
 pub mod Checked
 pub mod Beginning
 pub mod Judged
+pub mod NoInstrs

@@ -10,7 +10,7 @@ ghost use Rattle.class_tree.specs.CodeRules.{is_code};
 ghost use Rattle.type_frames.specs.TypeChecks.{instrs_in, environment, bounds, checked, map_in, is_bad_map};
 ghost use Rattle.type_rules.specs.Methods.{env_of};
 ghost use Rattle.type_verify.specs.Checkers.{checked_of, IsReady};
-ghost use Rattle.type_verify.specs.Outcomes.{IsDecided, IsDecidedIn};
+ghost use Rattle.type_verify.specs.Outcomes.{IsDecided, IsDecidedIn, IsMade};
 
 use crate::checker::Checker;
 use crate::walk::{Halt, walk};
@@ -24,7 +24,11 @@ use type_states::{MapBounds, StackMap};
 
 /// The instructions of a code of a class file.
 #[tactic(auto, using(type_frames::proofs::Formed::short_code, type_frames::proofs::Formed::listed_code))]
-fn instrs_of(alloc: Global, tree: &ClassFile, code: &Code) -> Result<Vec<(u16, Instr)>, AllocError>
+pub(crate) fn instrs_of(
+    alloc: Global,
+    tree: &ClassFile,
+    code: &Code,
+) -> Result<Vec<(u16, Instr)>, AllocError>
     requires { is_code tree.now.major tree.now.pool code.now ≡ true }
     ensures listed { IfOk result (λ v. instrs_in code.now ≡ v.items) }
     ensures some { IfOk result (λ v. 0 < length v.items) }
@@ -105,7 +109,7 @@ fn map_of<'a>(
     tree: &'a ClassFile,
     code: &'a Code,
     first: &[VTypeRef<'a>],
-    instrs: &'a [(u16, Instr)],
+    instrs: &[(u16, Instr)],
 ) -> Result<StackMap<'a>, MapFault>
     requires ordered { IsNonDecreasingBy (λ p. p.0) instrs.now }
     requires offsets { All (λ p. p.0 < 2 ^ 16) instrs.now }
@@ -125,6 +129,55 @@ fn map_of<'a>(
     }
 }
 
+/// Reads the stack map of a method with these instructions.
+pub(crate) fn map_with<'a>(
+    alloc: Global,
+    tree: &'a ClassFile,
+    member: &'a Member,
+    code: &'a Code,
+    instrs: &[(u16, Instr)],
+) -> Result<StackMap<'a>, MapFault>
+    requires ordered { IsNonDecreasingBy (λ p. p.0) instrs.now }
+    requires offsets { All (λ p. p.0 < 2 ^ 16) instrs.now }
+    requires listed { instrs_in code.now ≡ instrs.now }
+    ensures value { Reads result (map_in tree.now member.now code.now) }
+    ensures rooms { IfOk result (All (λ f. length f.locals ≡ code.now.max_locals)) }
+{
+    let this = this_refs(alloc, tree, member)?;
+    let parameters = parameter_refs(alloc, tree, member)?;
+    let first = first_listed(alloc, this.as_ref(), parameters.as_slice())?;
+    map_of(alloc, tree, code, first.as_slice(), instrs)
+}
+
+/// A method's code with these instructions, before it is checked.
+pub(crate) fn checker_of<'a>(
+    alloc: Global,
+    hierarchy: &'a Hierarchy,
+    tree: &'a ClassFile,
+    member: &'a Member,
+    code: &'a Code,
+    instrs: &'a [(u16, Instr)],
+) -> Result<Checker<'a>, MapFault>
+    requires listed { instrs_in code.now ≡ instrs.now }
+    requires rising { IsRising instrs.now }
+    requires ordered { IsNonDecreasingBy (λ p. p.0) instrs.now }
+    requires offsets { All (λ p. p.0 < 2 ^ 16) instrs.now }
+    ensures { IsMade (is_bad_map (map_in tree.now member.now code.now)) (checked hierarchy.now tree.now member.now code.now) result }
+{
+    let map = match map_with(alloc, tree, member, code, instrs) {
+        Ok(map) => map,
+        Err(fault) => return Err(fault),
+    };
+    Ok(Checker {
+        method: method_of(alloc, hierarchy, tree, member, code, instrs)?,
+        this: this_refs(alloc, tree, member)?,
+        parameters: parameter_refs(alloc, tree, member)?,
+        max_locals: code.max_locals,
+        map,
+        handlers: code.handlers.as_slice(),
+    })
+}
+
 /// The same as `check_code` of a code with these instructions.
 fn check_instrs<'a>(
     alloc: Global,
@@ -141,23 +194,11 @@ fn check_instrs<'a>(
     requires offsets { All (λ p. p.0 < 2 ^ 16) instrs.now }
     ensures { IsDecidedIn (is_bad_map (map_in tree.now member.now code.now)) (checked hierarchy.now tree.now member.now code.now) result }
 {
-    let this = this_refs(alloc, tree, member)?;
-    let parameters = parameter_refs(alloc, tree, member)?;
-    let first = first_listed(alloc, this.as_ref(), parameters.as_slice())?;
-    let map = match map_of(alloc, tree, code, first.as_slice(), instrs) {
-        Ok(map) => map,
-        Err(MapFault::Bad(_)) => return Err(Halt::Offends(0)),
-        Err(MapFault::Memory) => return Err(Halt::Memory),
-    };
-    let checker = Checker {
-        method: method_of(alloc, hierarchy, tree, member, code, instrs)?,
-        this,
-        parameters,
-        max_locals: code.max_locals,
-        map,
-        handlers: code.handlers.as_slice(),
-    };
-    decide(alloc, &checker)
+    match checker_of(alloc, hierarchy, tree, member, code, instrs) {
+        Ok(checker) => decide(alloc, &checker),
+        Err(MapFault::Bad(_)) => Err(Halt::Offends(0)),
+        Err(MapFault::Memory) => Err(Halt::Memory),
+    }
 }
 
 /// The type check of a method's code: whether its instructions have type states, and if not, the first that offends. A stack map of

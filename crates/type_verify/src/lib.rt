@@ -5,10 +5,12 @@
 mod begin;
 mod checker;
 mod code;
+mod expanding;
 mod flow;
 #[cfg(test)]
 mod tests;
 mod verify;
 mod walk;
 
+pub use expanding::expand;
 pub use verify::{VerifyFault, check_class, check_method};

@@ -1,0 +1,14 @@
+pub mod Settings
+pub mod Throwing
+pub mod Loading
+pub mod Linking
+pub mod Initializing
+pub mod Sites
+pub mod Announcing
+pub mod Unwinding
+pub mod Threads
+pub mod Actors
+pub mod Ends
+pub mod Replay
+pub mod Picks
+pub mod Reports
