@@ -1,7 +1,6 @@
 -- The forms in which the methods of the base classes say what they do. A base method is performed inside the step of its invocation and
 -- has no frame.
-use Rattle.std.specs.Prelude.{false, ◌==◌, Some, List, [], ◌∷◌, ◌++◌, length, codes, if◌then◌else◌}
-use Rattle.std.specs.Option.{option_map_or}
+use Rattle.std.specs.Prelude.{Some, List, [], ◌∷◌, ◌++◌, length, codes, if◌then◌else◌}
 use Rattle.ti_ids.specs.declared.number.ObjNo.{ObjNo}
 use Rattle.ti_ids.specs.declared.number.ClassNo.{ClassNo}
 use Rattle.ti_ids.specs.declared.value.Value.{Value}
@@ -10,9 +9,9 @@ use Rattle.jv_names.specs.Names.{Name}
 use Rattle.java_heap.specs.declared.object.Content.{Content}
 use Rattle.java_heap.specs.Heaps.{next_number}
 use Rattle.bytecode_local.specs.Changes.{exchange}
-use Rattle.machine_state.specs.Core.{monitor_at}
 use Rattle.machine_state.specs.Acts.{Act}
 use Rattle.instruction_effect.specs.Outcomes.{Site, Outcome, Throws, Fills, goes, has_room, makes_announced}
+use Rattle.instruction_effect.specs.Objects.{owns}
 use Rattle.instruction_effect.specs.Arguments.{takes_arguments}
 
 -- The invocation of a base method: what was done before it, and its arguments, the receiver first.
@@ -58,5 +57,5 @@ makes c class content name =
 -- Only the owner of an object's monitor may do it (the language, 17.2).
 abbrev pub when_owner : BaseCall → ObjNo → Outcome → Outcome
 when_owner c object so =
-    if option_map_or (λ owner. owner.0 == c.site.t.0) (monitor_at c.site.core object).owner false then so
+    if owns c.site object then so
     else fails c (codes "java/lang/IllegalMonitorStateException")

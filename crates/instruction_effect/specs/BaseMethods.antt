@@ -12,13 +12,12 @@ use Rattle.jv_names.specs.declared.descriptor.ElementType.TheVariants as element
 use Rattle.jv_names.specs.declared.descriptor.FieldType.{FieldType}
 use Rattle.base_set.specs.BaseSet.{errors}
 use Rattle.class_tree.specs.declared.access.Flag.TheVariants as flags
-use Rattle.java_heap.specs.Heaps.{class_at}
 use Rattle.link_versions.specs.Classes.{number_of, is_interface}
 use Rattle.link_versions.specs.Members.{method_has}
-use Rattle.link_versions.specs.Subtypes.{is_subclass}
 use Rattle.machine_state.specs.Trace.{MethodName}
 use Rattle.machine_state.specs.Acts.{Act}
 use Rattle.instruction_effect.specs.Outcomes.{Site, Outcome, or_misfit}
+use Rattle.instruction_effect.specs.Objects.{is_of}
 use Rattle.instruction_effect.specs.Arguments.{parameters_of, name_of_method}
 use Rattle.instruction_effect.specs.Invoking.{incompatible}
 use Rattle.instruction_effect.specs.BaseForms.{BaseCall}
@@ -109,14 +108,10 @@ is_row_of m r = bytes_eq m.class r.name.class && bytes_eq m.name r.name.name && 
 
 -- ---- what the arguments must be
 
--- An object is of the class, or of one below it.
-abbrev pub is_of : Site → ClassNo → ObjNo → Bool
-is_of site n o = option_map_or (λ of. is_subclass site.classes of n) (class_at site.core.heap o) false
-
 -- null, and each object of the class; an interface takes every object
 abbrev pub takes_reference : Site → ClassNo → Option ObjNo → Bool
 takes_reference site n None = true
-takes_reference site n (Some o) = if is_interface site.classes n then true else is_of site n o
+takes_reference site n (Some o) = if is_interface site.classes n then true else is_of site o n
 
 -- an argument for a parameter of a base method, where each that is a reference is of a class
 abbrev pub takes_element : Site → ElementType → Value → Bool

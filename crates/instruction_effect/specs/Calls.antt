@@ -7,6 +7,9 @@ use Rattle.ti_ids.specs.declared.number.MethodNo.{MethodNo}
 use Rattle.ti_ids.specs.declared.value.Value.{Value}
 use Rattle.ti_ids.specs.declared.value.Value.TheVariants as value
 use Rattle.jv_names.specs.Names.{Name}
+use Rattle.class_code.specs.declared.instr.Instr.{Instr}
+use Rattle.class_code.specs.declared.instr.Instr.TheVariants as instr
+use Rattle.class_code.specs.declared.instr.PoolOp.TheVariants as pool_op
 use Rattle.class_tree.specs.declared.access.Flag.TheVariants as flags
 use Rattle.class_tree.specs.declared.pool.Const.{Const}
 use Rattle.class_tree.specs.declared.pool.Const.TheVariants as const
@@ -20,8 +23,8 @@ use Rattle.link_versions.specs.Subtypes.{is_subclass}
 use Rattle.link_versions.specs.declared.fault.LinkFault.{LinkFault}
 use Rattle.link_versions.specs.Resolution.{resolved_method, from_object, unless_abstract, concrete_ones, sole_of, sole_or_fault, selected}
 use Rattle.machine_state.specs.Acts.{Act}
-use Rattle.instruction_effect.specs.Outcomes.{Site, Outcome, Throws, misfit, or_misfit, when_ready}
-use Rattle.instruction_effect.specs.Operands.{when_there}
+use Rattle.instruction_effect.specs.Outcomes.{Site, Outcome, misfit, or_misfit, when_ready}
+use Rattle.instruction_effect.specs.Operands.{unless_null, when_there}
 use Rattle.instruction_effect.specs.Arguments.{static_kinds, instance_kinds, when_arguments, takes_arguments}
 use Rattle.instruction_effect.specs.Invoking.{incompatible, abstract_method, no_method, unselected, calls}
 use Rattle.instruction_effect.specs.BaseThreads.{is_base_method}
@@ -113,8 +116,7 @@ invoke_static site index = resolving site index invokes_static
 
 -- A null receiver throws. What comes of another one goes by its class.
 abbrev pub with_receiver : Resolved → (ClassNo → Outcome) → List Value → Outcome
-with_receiver x so (value.Ref (Some o) ∷ values) = or_misfit (heap.class_at x.site.core.heap o) so
-with_receiver x so (value.Ref None ∷ values) = Throws x.before (codes "java/lang/NullPointerException")
+with_receiver x so (value.Ref reference ∷ values) = unless_null x.before reference (λ o. or_misfit (heap.class_at x.site.core.heap o) so)
 with_receiver x so _ = misfit
 
 -- A method that may not be called so is seen before the receiver is looked at.
@@ -187,3 +189,12 @@ invokes_special x = if is_init x.reference && not (same_class x.method.class x.c
 
 abbrev pub invoke_special : Site → ℕ → Outcome
 invoke_special site index = resolving site index invokes_special
+
+-- ---- the family
+
+abbrev pub call_outcome : Site → Instr → Outcome
+call_outcome site (instr.Pool pool_op.InvokeStatic index) = invoke_static site index
+call_outcome site (instr.Pool pool_op.InvokeVirtual index) = invoke_virtual site index
+call_outcome site (instr.Pool pool_op.InvokeSpecial index) = invoke_special site index
+call_outcome site (instr.InvokeInterface index count) = invoke_interface site index
+call_outcome site i = misfit

@@ -1,19 +1,22 @@
 -- `ireturn`, `lreturn`, `areturn` and `return` (JVM specification 2.6.4, 2.11.10 and 6.5), and what JVM TI hears of them ("Method Exit",
 -- "Frame Pop"). A result isn't narrowed to the method's type.
-use Rattle.std.specs.Prelude.{ℕ, Bool, true, false, ◌==◌, List, [], ◌∷◌, ◌++◌, drop, Option, Some, None, option_map, codes, if◌then◌else◌}
-use Rattle.std.specs.Option.{option_map_or}
+use Rattle.std.specs.Prelude.{ℕ, Bool, true, false, List, [], ◌∷◌, ◌++◌, drop, Option, Some, None, option_map, codes, if◌then◌else◌}
 use Rattle.ti_ids.specs.declared.number.ThreadNo.{ThreadNo}
 use Rattle.ti_ids.specs.declared.number.ObjNo.{ObjNo}
 use Rattle.ti_ids.specs.declared.value.Value.{Value}
+use Rattle.class_code.specs.declared.instr.Instr.{Instr}
+use Rattle.class_code.specs.declared.instr.Instr.TheVariants as instr
+use Rattle.class_code.specs.declared.instr.Simple.TheVariants as simple
 use Rattle.class_code.specs.declared.instr.Kind.{Kind}
 use Rattle.class_code.specs.declared.instr.Kind.TheVariants as kind
 use Rattle.thread_frames.specs.declared.frame.StackEntry.TheVariants.{Java, Init}
 use Rattle.bytecode_local.specs.Changes.{exchange, takes, changed}
 use Rattle.bytecode_local.specs.Kinds.{kind_at}
-use Rattle.machine_state.specs.Core.{MethodFrame, StackFrame, monitor_at}
+use Rattle.machine_state.specs.Core.{MethodFrame, StackFrame}
 use Rattle.machine_state.specs.Trace.{MethodName, MethodExit, FramePop, Returned}
 use Rattle.machine_state.specs.Acts.{Act, Changes, Leaves, Pops, SetsTop, raises}
-use Rattle.instruction_effect.specs.Outcomes.{Site, Outcome, Goes, Throws, or_misfit}
+use Rattle.instruction_effect.specs.Outcomes.{Site, Outcome, Goes, Throws, misfit, or_misfit}
+use Rattle.instruction_effect.specs.Objects.{owns}
 use Rattle.instruction_effect.specs.Arguments.{name_of_method, result_kind}
 
 -- ---- the result
@@ -39,9 +42,6 @@ result_of site returned m = handed_on site returned (result_kind m.desc)
 -- the frames beneath the current one
 abbrev pub beneath : Site → List StackFrame
 beneath site = drop 1 site.thread.frames
-
-abbrev pub owns : Site → ObjNo → Bool
-owns site object = option_map_or (λ owner. owner.0 == site.t.0) (monitor_at site.core object).owner false
 
 -- A synchronized method gives up the monitor that was entered for it. A thread that doesn't own it any more throws.
 abbrev pub not_owner : Outcome
@@ -85,3 +85,10 @@ returns_named behind site returned m = or_misfit (result_of site returned m) (λ
 
 abbrev pub returns : (MethodFrame → Option ℕ) → Site → Option Kind → Outcome
 returns behind site returned = or_misfit (name_of_method site.classes site.frame.method) (returns_named behind site returned)
+
+-- ---- the family
+
+abbrev pub return_outcome : (MethodFrame → Option ℕ) → Site → Instr → Outcome
+return_outcome behind site (instr.Simple (simple.Return k)) = returns behind site (Some k)
+return_outcome behind site (instr.Simple simple.ReturnVoid) = returns behind site None
+return_outcome behind site i = misfit
