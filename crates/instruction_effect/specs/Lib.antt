@@ -16,5 +16,6 @@ pub mod BaseObjects
 pub mod BaseTexts
 pub mod BaseThreads
 pub mod BaseMethods
+pub mod MethodResolution
 pub mod Calls
 pub mod CallEntry
