@@ -1,1 +1,2 @@
 pub mod CallExamples
+pub mod BaseExamples
