@@ -1,0 +1,2 @@
+pub mod ExampleSites
+pub mod ArrayExamples
