@@ -1,2 +1,4 @@
 pub mod ExampleSites
 pub mod ArrayExamples
+pub mod FieldExamples
+pub mod ObjectExamples
