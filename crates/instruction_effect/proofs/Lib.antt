@@ -2,3 +2,4 @@ pub mod ExampleSites
 pub mod ArrayExamples
 pub mod FieldExamples
 pub mod ObjectExamples
+pub mod MonitorExamples
