@@ -51,6 +51,11 @@ abbrev pub unless_null : List Act → Option ObjNo → (ObjNo → Outcome) → O
 unless_null acts None so = Throws acts (codes "java/lang/NullPointerException")
 unless_null acts (Some object) so = so object
 
+-- ---- a thing of another kind than the instruction needs
+
+abbrev pub incompatible : List Act → Outcome
+incompatible acts = Throws acts (codes "java/lang/IncompatibleClassChangeError")
+
 -- ---- classes
 
 -- the classes with the class of an array type
