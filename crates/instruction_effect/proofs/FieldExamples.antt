@@ -148,6 +148,11 @@ module _ (core : Core) (thread : Thread) (pin : Pin) where
   unfolding first_version superclasses lookup_order declared_field resolved_field
   static-put = refl
 
+  -- five longs fill the operand stack
+  static-no_room : over ready pool_op.GetStatic 20 (Long (pos 1) ∷ Long (pos 2) ∷ Long (pos 3) ∷ Long (pos 4) ∷ Long (pos 5) ∷ []) ≡ Throws [] (codes "java/lang/InternalError")
+  unfolding first_version superclasses lookup_order declared_field resolved_field
+  static-no_room = refl
+
   -- `x` isn't static
   static-instance_one : over ready pool_op.GetStatic 21 [] ≡ Throws [] (codes "java/lang/IncompatibleClassChangeError")
   unfolding first_version superclasses lookup_order declared_field resolved_field
