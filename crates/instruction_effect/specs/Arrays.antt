@@ -23,7 +23,7 @@ use Rattle.bytecode_local.specs.Changes.{exchange}
 use Rattle.bytecode_local.specs.Kinds.{kind_at, int_at, reference_at}
 use Rattle.machine_state.specs.Acts.{Changes, PutsElement}
 use Rattle.instruction_effect.specs.Outcomes.{Site, Outcome, Throws, misfit, or_misfit, goes}
-use Rattle.instruction_effect.specs.Operands.{gives, unless_null}
+use Rattle.instruction_effect.specs.Operands.{gives, unless_null, incompatible}
 use Rattle.instruction_effect.specs.NewArrays.{newarray_outcome, anewarray_outcome, multianewarray_outcome}
 
 -- ---- what an array's elements are
@@ -58,12 +58,9 @@ served e component = if serves e component then Some component else None
 abbrev pub components_in : Site → Element → ObjNo → Option Typed
 components_in site e object = heaps.class_at site.core.heap object >>= λ n. component_of (type_of site.classes n) >>= served e
 
-abbrev pub incompatible : Outcome
-incompatible = Throws [] (codes "java/lang/IncompatibleClassChangeError")
-
 -- It must be such an array, and not null.
 abbrev pub when_array : Site → Element → Option ObjNo → (ObjNo → Typed → Outcome) → Outcome
-when_array site e reference so = unless_null [] reference (λ object. elim (components_in site e object) [ None ↦ incompatible | Some component ↦ so object component ])
+when_array site e reference so = unless_null [] reference (λ object. elim (components_in site e object) [ None ↦ incompatible [] | Some component ↦ so object component ])
 
 -- ---- elements
 
@@ -102,7 +99,7 @@ when_held site component v so = if may_hold site component v then so else Throws
 
 abbrev pub length_outcome : Site → Outcome
 length_outcome site = or_misfit (reference_at site.frame.stack 0) (λ reference. unless_null [] reference (λ object.
-    elim (heaps.array_length_at site.core.heap object) [ None ↦ incompatible | Some n ↦ gives site [] 1 (value.Int (pos n)) ]))
+    elim (heaps.array_length_at site.core.heap object) [ None ↦ incompatible [] | Some n ↦ gives site [] 1 (value.Int (pos n)) ]))
 
 -- the index is the top, and the array below it
 abbrev pub load_outcome : Site → Element → Outcome

@@ -19,7 +19,7 @@ use Rattle.machine_state.specs.Acts.{Act}
 use Rattle.instruction_effect.specs.Outcomes.{Site, Outcome, or_misfit}
 use Rattle.instruction_effect.specs.Objects.{is_of}
 use Rattle.instruction_effect.specs.Arguments.{parameters_of, name_of_method}
-use Rattle.instruction_effect.specs.Invoking.{incompatible}
+use Rattle.instruction_effect.specs.Operands.{incompatible}
 use Rattle.instruction_effect.specs.BaseForms.{BaseCall}
 use Rattle.instruction_effect.specs.BaseObjects.{constructs, class_of_receiver, equal_objects, hash_code, waits, notifies, notifies_all, constructs_with, gives_message}
 use Rattle.instruction_effect.specs.BaseTexts.{int_text, long_text, char_text, boolean_text, string_text, string_length, char_at, equal_strings, appends, makes_string, prints, prints_line}

@@ -20,9 +20,9 @@ use Rattle.link_versions.specs.Subtypes.{is_subclass}
 use Rattle.link_versions.specs.declared.fault.LinkFault.{LinkFault}
 use Rattle.link_versions.specs.Resolution.{from_object, unless_abstract, concrete_ones, sole_of, sole_or_fault, selected}
 use Rattle.instruction_effect.specs.Outcomes.{Site, Outcome, misfit, or_misfit, when_ready}
-use Rattle.instruction_effect.specs.Operands.{unless_null}
+use Rattle.instruction_effect.specs.Operands.{incompatible, unless_null}
 use Rattle.instruction_effect.specs.Arguments.{static_kinds, instance_kinds, when_arguments, takes_arguments}
-use Rattle.instruction_effect.specs.Invoking.{incompatible, abstract_method, no_method, unselected, calls}
+use Rattle.instruction_effect.specs.Invoking.{abstract_method, no_method, unselected, calls}
 use Rattle.instruction_effect.specs.BaseThreads.{is_base_method}
 use Rattle.instruction_effect.specs.BaseMethods.{base_outcome}
 use Rattle.instruction_effect.specs.MethodResolution.{Resolved, Reference, resolving, is_static}

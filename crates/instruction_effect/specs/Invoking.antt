@@ -13,6 +13,7 @@ use Rattle.link_versions.specs.Members.{method_has}
 use Rattle.machine_state.specs.Core.{MethodFrame}
 use Rattle.machine_state.specs.Acts.{Act, Changes, Pushes}
 use Rattle.instruction_effect.specs.Outcomes.{Site, Outcome, Goes, Throws, misfit, or_misfit, when_linked}
+use Rattle.instruction_effect.specs.Operands.{incompatible}
 use Rattle.instruction_effect.specs.Monitors.{entering}
 use Rattle.instruction_effect.specs.ClassObjects.{when_class_object}
 use Rattle.instruction_effect.specs.Arguments.{newest_body, frame_of, overflows, is_refused}
@@ -26,9 +27,6 @@ pub record Call : Type 0 where
   pub arguments : List Value
 
 -- ---- errors
-
-abbrev pub incompatible : List Act → Outcome
-incompatible acts = Throws acts (codes "java/lang/IncompatibleClassChangeError")
 
 abbrev pub abstract_method : List Act → Outcome
 abstract_method acts = Throws acts (codes "java/lang/AbstractMethodError")

@@ -14,8 +14,8 @@ use Rattle.link_versions.specs.Members.{method_has}
 use Rattle.link_versions.specs.Resolution.{resolved_method}
 use Rattle.machine_state.specs.Acts.{Act}
 use Rattle.instruction_effect.specs.Outcomes.{Site, Outcome, or_misfit}
-use Rattle.instruction_effect.specs.Operands.{when_there}
-use Rattle.instruction_effect.specs.Invoking.{incompatible, no_method}
+use Rattle.instruction_effect.specs.Operands.{incompatible, when_there}
+use Rattle.instruction_effect.specs.Invoking.{no_method}
 
 -- ---- what an instruction names: section 4.4.2
 
