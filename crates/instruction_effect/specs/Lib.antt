@@ -9,3 +9,5 @@ pub mod Arguments
 pub mod ClassObjects
 pub mod Invoking
 pub mod Returns
+pub mod Effect
+pub mod CallEntry
