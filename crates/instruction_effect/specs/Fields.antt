@@ -10,7 +10,6 @@ use Rattle.ti_ids.specs.declared.value.Value.{Value}
 use Rattle.jv_names.specs.Names.{Name}
 use Rattle.class_code.specs.declared.instr.Kind.{Kind}
 use Rattle.class_code.specs.declared.instr.Kind.TheVariants as kind
-use Rattle.class_code.specs.declared.instr.PoolOp.{PoolOp}
 use Rattle.class_code.specs.declared.instr.PoolOp.TheVariants as pool_op
 use Rattle.class_code.specs.declared.instr.Instr.{Instr}
 use Rattle.class_code.specs.declared.instr.Instr.TheVariants as instr
@@ -31,7 +30,7 @@ use Rattle.machine_state.specs.Core.{Core, same_field, static_set}
 use Rattle.machine_state.specs.Trace.{FieldName}
 use Rattle.machine_state.specs.Acts.{Act, Changes, PutsField, PutsStatic}
 use Rattle.instruction_effect.specs.Outcomes.{Site, Outcome, Throws, misfit, or_misfit, goes, when_ready}
-use Rattle.instruction_effect.specs.Operands.{kind_of_desc, zero_of, when_fits, gives, unless_null, when_there}
+use Rattle.instruction_effect.specs.Operands.{kind_of_desc, zero_of, when_fits, gives, unless_null, incompatible, when_there}
 
 -- ---- fields by number
 
@@ -42,10 +41,7 @@ field_member classes field = option_and_then (λ t. slice_get t.fields field.pla
 abbrev pub is_static_field : List Class → FieldNo → Bool
 is_static_field classes field = option_map_or (λ m. has_flag m.flags.bits flags.Static) (field_member classes field) false
 
--- its name and its descriptor
-abbrev pub field_name : List Class → FieldNo → Option Name
-field_name classes field = first_version classes field.class >>= λ t. slice_get t.fields field.place >>= λ m. text_at t.pool m.name
-
+-- its descriptor
 abbrev pub field_desc : List Class → FieldNo → Option Name
 field_desc classes field = first_version classes field.class >>= λ t. slice_get t.fields field.place >>= λ m. text_at t.pool m.desc
 
@@ -111,17 +107,14 @@ abbrev pub when_resolved : Site → ℕ → (Site → List Act → FieldNo → O
 when_resolved site index so =
     or_misfit (field_named site.pool index) (λ wanted. when_there site wanted.class (λ there acts n. when_found there acts n wanted (so there acts)))
 
--- a field of the other staticness
-abbrev pub incompatible : List Act → Outcome
-incompatible acts = Throws acts (codes "java/lang/IncompatibleClassChangeError")
-
+-- A field of the other staticness is incompatible.
 abbrev pub when_static : Site → List Act → FieldNo → Outcome → Outcome
 when_static site acts field so = if is_static_field site.classes field then so else incompatible acts
 
 abbrev pub when_instance : Site → List Act → FieldNo → Outcome → Outcome
 when_instance site acts field so = if is_static_field site.classes field then incompatible acts else so
 
--- an object whose class lacks the field
+-- So is an object whose class lacks the field.
 abbrev pub when_has : {A : Type 0} → List Act → Option A → (A → Outcome) → Outcome
 when_has acts None so = incompatible acts
 when_has acts (Some x) so = so x
@@ -148,12 +141,12 @@ write_instance site acts field =
     goes site (acts ++ Changes (PutsField object place v) ∷ []) (exchange 2 []))))))
 
 -- The class that declares a static field must be initialized before anything else of it is looked at.
-abbrev pub field_outcome : Site → PoolOp → ℕ → Outcome
-field_outcome site pool_op.GetStatic index = when_resolved site index (λ there acts field. when_ready there field.class (read_static there acts field))
-field_outcome site pool_op.PutStatic index = when_resolved site index (λ there acts field. when_ready there field.class (write_static there acts field))
-field_outcome site pool_op.GetField index = when_resolved site index read_instance
-field_outcome site pool_op.PutField index = when_resolved site index write_instance
-field_outcome site op index = misfit
+abbrev pub field_outcome : Site → Instr → Outcome
+field_outcome site (instr.Pool pool_op.GetStatic index) = when_resolved site index (λ there acts field. when_ready there field.class (read_static there acts field))
+field_outcome site (instr.Pool pool_op.PutStatic index) = when_resolved site index (λ there acts field. when_ready there field.class (write_static there acts field))
+field_outcome site (instr.Pool pool_op.GetField index) = when_resolved site index read_instance
+field_outcome site (instr.Pool pool_op.PutField index) = when_resolved site index write_instance
+field_outcome site i = misfit
 
 -- ---- the field that an instruction uses, for the events of JVM TI ("Field Access", "Field Modification")
 

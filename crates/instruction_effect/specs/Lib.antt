@@ -5,6 +5,8 @@ pub mod Fields
 pub mod Constants
 pub mod Division
 pub mod Objects
+pub mod NewArrays
+pub mod Arrays
 pub mod Arguments
 pub mod ClassObjects
 pub mod Invoking

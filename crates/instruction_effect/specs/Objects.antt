@@ -1,7 +1,6 @@
 -- `new`, `checkcast`, `instanceof`, `athrow`, `monitorenter` and `monitorexit` (JVM specification 6.5).
 use Rattle.std.specs.Prelude.{ℕ, pos, Bool, false, not, ◌&&◌, ◌||◌, ◌==◌, List, [], ◌∷◌, Option, Some, None, codes, if◌then◌else◌}
 use Rattle.std.specs.Option.{option_map_or}
-use Rattle.ti_ids.specs.declared.number.ThreadNo.{ThreadNo}
 use Rattle.ti_ids.specs.declared.number.ObjNo.{ObjNo}
 use Rattle.ti_ids.specs.declared.number.ClassNo.{ClassNo}
 use Rattle.ti_ids.specs.declared.value.Value.{Value}
@@ -26,7 +25,7 @@ use Rattle.bytecode_local.specs.Kinds.{operand_at, reference_at}
 use Rattle.machine_state.specs.Core.{monitor_at}
 use Rattle.machine_state.specs.Acts.{Act, Changes, Makes, Leaves}
 use Rattle.instruction_effect.specs.Outcomes.{Site, Outcome, Throws, ThrowsObject, misfit, or_misfit, goes, when_ready, when_room}
-use Rattle.instruction_effect.specs.Operands.{when_fits, gives_object, unless_null, when_there}
+use Rattle.instruction_effect.specs.Operands.{when_fits, gives_object, unless_null, incompatible, when_there}
 use Rattle.instruction_effect.specs.Fields.{fresh_fields}
 use Rattle.instruction_effect.specs.Monitors.{entering}
 
@@ -86,7 +85,7 @@ abbrev pub is_throwable : Site → ObjNo → Bool
 is_throwable site object = option_map_or (is_of site object) (number_of site.classes (codes "java/lang/Throwable")) false
 
 abbrev pub thrown : Site → ObjNo → Outcome
-thrown site object = if is_throwable site object then ThrowsObject object else Throws [] (codes "java/lang/IncompatibleClassChangeError")
+thrown site object = if is_throwable site object then ThrowsObject object else incompatible []
 
 -- ---- monitorenter and monitorexit
 

@@ -6,10 +6,11 @@ use Rattle.ti_ids.specs.declared.number.ClassNo.{ClassNo}
 use Rattle.ti_ids.specs.declared.value.Value.{Value}
 use Rattle.ti_ids.specs.declared.value.Value.TheVariants as value
 use Rattle.jv_names.specs.Names.{Name}
+use Rattle.jv_names.specs.declared.descriptor.FieldType.{FieldType}
 use Rattle.class_code.specs.declared.instr.Kind.{Kind}
 use Rattle.class_code.specs.declared.instr.Kind.TheVariants as kind
-use Rattle.link_versions.specs.Classes.{Class}
-use Rattle.link_versions.specs.Changes.{with_array}
+use Rattle.link_versions.specs.Classes.{Class, number_of}
+use Rattle.link_versions.specs.Changes.{array_class}
 use Rattle.bytecode_local.specs.Changes.{exchange, has_room}
 use Rattle.machine_state.specs.Linked.{array_type}
 use Rattle.machine_state.specs.Acts.{Act}
@@ -50,11 +51,21 @@ abbrev pub unless_null : List Act → Option ObjNo → (ObjNo → Outcome) → O
 unless_null acts None so = Throws acts (codes "java/lang/NullPointerException")
 unless_null acts (Some object) so = so object
 
+-- ---- a thing of another kind than the instruction needs
+
+abbrev pub incompatible : List Act → Outcome
+incompatible acts = Throws acts (codes "java/lang/IncompatibleClassChangeError")
+
 -- ---- classes
 
--- the classes with the class of an array type, where that isn't there
+-- the classes with the class of an array type
+abbrev pub classes_with_type : List Class → Name → Option FieldType → List Class
+classes_with_type classes name None = classes
+classes_with_type classes name (Some t) = array_class (number_of classes) name t ∷ classes
+
+-- the classes with the class of this name, which is added where it isn't there and is an array class
 abbrev pub classes_with : List Class → Name → List Class
-classes_with classes name = elim (array_type name) [ None ↦ classes | Some t ↦ with_array classes name t ]
+classes_with classes name = elim (number_of classes name) [ Some n ↦ classes | None ↦ classes_with_type classes name (array_type name) ]
 
 -- The class of a name must be loaded, as `when_loaded` says. What comes then goes by the site at which the class is there, the acts that
 -- make it where it is an array class, and its number.

@@ -1,0 +1,5 @@
+pub mod ExampleSites
+pub mod ArrayExamples
+pub mod FieldExamples
+pub mod ObjectExamples
+pub mod MonitorExamples
