@@ -18,4 +18,5 @@ pub mod BaseThreads
 pub mod BaseMethods
 pub mod MethodResolution
 pub mod Calls
+pub mod Effect
 pub mod CallEntry

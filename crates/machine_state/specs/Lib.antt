@@ -15,3 +15,4 @@ pub mod Places
 pub mod Acts
 pub mod Equivalence
 pub mod Obsolete
+pub mod Laws

@@ -6,6 +6,7 @@ use Rattle.ti_ids.specs.declared.value.Value.{Value}
 use Rattle.ti_ids.specs.declared.value.Value.TheVariants as value
 use Rattle.ti_ids.specs.declared.state.Announced.{Announced}
 use Rattle.ti_ids.specs.declared.state.Announced.TheVariants.{New, Caught, No, Yes}
+use Rattle.ti_codes.specs.declared.event.EventKind.{EventKind}
 use Rattle.ti_codes.specs.declared.event.EventKind.TheVariants as kinds
 use Rattle.jv_names.specs.Names.{Name}
 use Rattle.link_versions.specs.Classes.{Class}
@@ -14,7 +15,7 @@ use Rattle.machine_state.specs.Trace.{FieldName, Place, Trace, Event, MethodEntr
 use Rattle.machine_state.specs.Places.{has_breakpoint, is_watched}
 use Rattle.machine_state.specs.Obsolete.{is_obsolete}
 use Rattle.machine_state.specs.Acts.{State, Act, Changes, SetsTop, raises}
-use Rattle.instruction_effect.specs.Accesses.{Access, Reads, Writes, access_of}
+use Rattle.instruction_effect.specs.Fields.{accessed_field, modified_field}
 use Rattle.machine_steps.specs.Settings.{Setting}
 use Rattle.machine_steps.specs.Throwing.{method_of, place_of, class_name_of}
 use Rattle.machine_steps.specs.Sites.{Stop}
@@ -41,19 +42,20 @@ break_events setting s classes t f =
     if has_breakpoint s.trace place && not (is_obsolete setting.job setting.turns s.trace s.core.classes f) then Breakpoint t place ∷ [] else []
 
 -- the instruction's field is watched, and resolves without loading a class
-abbrev pub access_events : Trace → ThreadNo → Place → Option Access → List Event
-access_events trace t place None = []
-access_events trace t place (Some (Reads field)) = if is_watched trace field kinds.FieldAccess then FieldAccess t place field ∷ [] else []
-access_events trace t place (Some (Writes field)) = if is_watched trace field kinds.FieldModification then FieldModification t place field ∷ [] else []
+abbrev pub if_watched : Trace → EventKind → (FieldName → Event) → Option FieldName → List Event
+if_watched trace kind event None = []
+if_watched trace kind event (Some field) = if is_watched trace field kind then event field ∷ [] else []
 
-abbrev pub accessed : Option Stop → Option Access
-accessed None = None
-accessed (Some stop) = access_of stop.site stop.instr
+abbrev pub access_events : Trace → ThreadNo → Place → Option Stop → List Event
+access_events trace t place None = []
+access_events trace t place (Some stop) =
+    if_watched trace kinds.FieldAccess (FieldAccess t place) (accessed_field stop.site stop.instr)
+    ++ if_watched trace kinds.FieldModification (FieldModification t place) (modified_field stop.site stop.instr)
 
 abbrev pub pre_events : Setting → State → List Class → ThreadNo → MethodFrame → Option Stop → List Event
 pre_events setting s classes t f stop =
     entry_events classes s.core t f f.announced
-    ++ SingleStep t (place_of classes f) ∷ break_events setting s classes t f ++ access_events s.trace t (place_of classes f) (accessed stop)
+    ++ SingleStep t (place_of classes f) ∷ break_events setting s classes t f ++ access_events s.trace t (place_of classes f) stop
 
 abbrev pub announced : MethodFrame → MethodFrame
 announced f = record f { announced = Yes }

@@ -25,9 +25,10 @@ use Rattle.link_versions.specs.declared.class.InitState.{InitState}
 use Rattle.link_versions.specs.declared.class.InitState.TheVariants as states
 use Rattle.link_versions.specs.Classes.{Class, class_at as class_numbered, first_version, version_at, newest_version, is_interface}
 use Rattle.link_versions.specs.Members.{declared_method, method_has}
-use Rattle.machine_state.specs.Core.{Core, Thread, frames_at, class_of_number}
-use Rattle.machine_state.specs.Acts.{State, Act, Changes, SetsClass, PutsStatic, Pops, PushesInit, EntersInitializer, core_after}
+use Rattle.machine_state.specs.Core.{Core, MethodFrame, frames_at, class_of_number}
+use Rattle.machine_state.specs.Acts.{State, Act, Changes, SetsClass, PutsStatic, Pops, Pushes, PushesInit, EntersInitializer}
 use Rattle.instruction_effect.specs.Outcomes.{has_room, makes_announced}
+use Rattle.instruction_effect.specs.Arguments.{frame_of, is_refused, newest_body}
 use Rattle.machine_steps.specs.Throwing.{throws_new, throws_full}
 use Rattle.machine_steps.specs.Linking.{parents}
 
@@ -130,7 +131,14 @@ init_step s classes t n = init_step_in s classes t n (state_of_class classes n)
 
 -- ---- the frame of `<clinit>`, as of a method that isn't synchronized
 
-TODO_FRAME
+abbrev pub pushes_initializer : State → List Class → ThreadNo → ClassNo → MethodFrame → List Act
+pushes_initializer s classes t n frame =
+    if is_refused (frames_at s.core t) frame then throws_new classes s.core t [] overflow_name
+    else Changes (EntersInitializer n) ∷ Changes (Pushes t frame) ∷ []
+
+-- a method that isn't abstract has a body
+abbrev pub enters_initializer : State → List Class → ThreadNo → ClassNo → MethodNo → List Act
+enters_initializer s classes t n m = option_map_or (λ body. pushes_initializer s classes t n (frame_of m body [])) (newest_body classes m) []
 
 -- ---- its later steps: the supertypes that it needs, then `<clinit>`, then the end
 

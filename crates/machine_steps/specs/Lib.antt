@@ -12,3 +12,4 @@ pub mod Ends
 pub mod Replay
 pub mod Picks
 pub mod Reports
+pub mod Laws
