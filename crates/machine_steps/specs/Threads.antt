@@ -1,5 +1,5 @@
 -- The steps of a thread: the first rule that fits gives it.
-use Rattle.std.specs.Prelude.{ℕ, ◌==◌, Bool, true, false, not, ◌&&◌, List, [], ◌∷◌, ◌++◌, fold, drop, length, Option, Some, None, is_none, if◌then◌else◌}
+use Rattle.std.specs.Prelude.{ℕ, ◌==◌, Bool, true, false, not, ◌&&◌, List, [], ◌∷◌, ◌++◌, fold, drop, length, Option, Some, None, is_none, option_map, unwrap_or, if◌then◌else◌}
 use Rattle.std.specs.Option.{option_map_or, option_and_then}
 use Rattle.ti_ids.specs.Maybe.{◌>>=◌}
 use Rattle.ti_ids.specs.declared.number.ThreadNo.{ThreadNo}
@@ -21,6 +21,8 @@ use Rattle.machine_state.specs.Core.{Core, Thread, MethodFrame, StackFrame, Pend
 use Rattle.machine_state.specs.Trace.{ThreadStart, ThreadEnd, MonitorWaited}
 use Rattle.machine_state.specs.Places.{is_suspended}
 use Rattle.machine_state.specs.Acts.{State, Act, Changes, SetsTop, SetsState, SetsActivity, TakesBack, TakesCall, raises, acted}
+use Rattle.bytecode_local.specs.Effect.{following}
+use Rattle.machine_state.specs.FrameCode.{code}
 use Rattle.instruction_effect.specs.Outcomes.{Outcome, Goes, Throws, Fills, ThrowsObject, NeedsLoad, NeedsLink, NeedsInit, misfit}
 use Rattle.instruction_effect.specs.Effect.{effect}
 use Rattle.instruction_effect.specs.CallEntry.{entry_outcome}
@@ -91,9 +93,14 @@ joins setting s classes t thread of =
 
 -- ---- an instruction
 
-abbrev pub outcome_of : Option Stop → Outcome
-outcome_of None = misfit
-outcome_of (Some stop) = effect stop.site stop.code stop.instr
+-- the offset behind the instruction of a frame
+abbrev pub behind : Setting → State → MethodFrame → Option ℕ
+behind setting s f = option_map (λ list. unwrap_or (following list f.pc) 65535) (code setting.job setting.turns s.trace s.core.classes f)
+
+-- where no instruction begins at the pc, that is a misfit
+abbrev pub outcome_of : Setting → State → Option Stop → Outcome
+outcome_of setting s None = misfit
+outcome_of setting s (Some stop) = effect (behind setting s) stop.site stop.code stop.instr
 
 -- the state behind acts that announce, within the step
 abbrev pub announced_state : Setting → State → ThreadNo → List Act → State
@@ -104,7 +111,7 @@ abbrev pub executes : Setting → State → List Class → ThreadNo → Thread �
 executes setting s classes t thread f =
     let first = announcing setting s classes t f (stop_of setting s classes t thread f) f.announced in
     let then_state = announced_state setting s t first in
-    resolved setting then_state classes t (outcome_of (stop_of setting then_state classes t thread (announced f))) >>= λ acts.
+    resolved setting then_state classes t (outcome_of setting then_state (stop_of setting then_state classes t thread (announced f))) >>= λ acts.
     Some (if has_calls then_state.core (actors.Thread t) then first else first ++ acts)
 
 -- ---- a thread without frames
