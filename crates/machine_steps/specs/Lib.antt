@@ -12,3 +12,7 @@ pub mod Ends
 pub mod Replay
 pub mod Picks
 pub mod Reports
+pub mod Options
+pub mod Words
+pub mod Refusals
+pub mod Results
