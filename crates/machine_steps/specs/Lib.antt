@@ -16,3 +16,5 @@ pub mod Options
 pub mod Words
 pub mod Refusals
 pub mod Results
+pub mod Parts
+pub mod StandsFor
