@@ -1,7 +1,7 @@
 -- What words and files ask for: a task, or the first refusal with its place. Refusals come in this order: the shape of the words; the
 -- numbers of files; the fetches of classes, donors, agents and the schedule; the class files; the agent files; the schedule's text.
 -- Only then is anything run.
-use Rattle.std.specs.Prelude.{ℕ, ◌+◌, List, [], ◌∷◌, ◌++◌, length, map, take, drop, Some, None, unwrap_or, Bool, ◌||◌, nat_lt, bytes_eq, if◌then◌else◌, Result, Ok, Err}
+use Rattle.std.specs.Prelude.{ℕ, ◌+◌, List, [], ◌∷◌, ◌++◌, length, map, take, drop, Option, Some, None, option_map, unwrap_or, Bool, ◌||◌, nat_lt, bytes_eq, if◌then◌else◌, Result, Ok, Err}
 use Rattle.std.specs.List.{list_any}
 use Rattle.ti_ids.specs.declared.actor.Actor.{Actor}
 use Rattle.jv_names.specs.Names.{Name}
@@ -15,9 +15,13 @@ use Rattle.base_set.specs.BaseSet.{is_base}
 use Rattle.report_text.specs.Stated.{stated}
 use Rattle.machine_state.specs.Jobs as jobs
 use Rattle.machine_state.specs.Jobs.{Job, File}
+use Rattle.machine_state.specs.Acts.{State}
+use Rattle.machine_steps.specs.Settings.{Setting}
+use Rattle.machine_steps.specs.Ends.{is_enabled}
+use Rattle.machine_steps.specs.Replay.{step, opening}
 use Rattle.machine_steps.specs.Options.{Word}
 use Rattle.machine_steps.specs.Words.{Given, Request, Runs, Replays, Makes, request_of}
-use Rattle.machine_steps.specs.Refusals.{Limit, Classes, Donors, Agents, ClassBytes, AgentBytes, ScheduleBytes, TotalBytes, most, AgentFault, Refusal, Usage, Absent, ReadFault, TooLarge, BadClass, BadAgent, BadText}
+use Rattle.machine_steps.specs.Refusals.{Limit, Classes, Donors, Agents, ClassBytes, AgentBytes, ScheduleBytes, TotalBytes, most, AgentFault, Refusal, Usage, Absent, ReadFault, TooLarge, BadClass, BadAgent, BadText, BadEntry}
 
 abbrev pub Answer : Type 0 → Type 0
 Answer A = Result A Refusal
@@ -48,6 +52,10 @@ pub data Fetched : Type 0 where
 
 abbrev pub Files : Type 0
 Files = Word → Fetched
+
+-- those of a store that never fails: each name has these bytes, or is not there
+abbrev pub steady : (Word → Option (List ℕ)) → Files
+steady files name = elim (files name) [ None ↦ NotThere | Some bytes ↦ Found bytes ]
 
 -- the bytes of a file at a place, which are no more than a limit allows
 abbrev pub fetched : Limit → ℕ → Fetched → Answer (List ℕ)
@@ -155,3 +163,14 @@ module _ (read_agent : List ℕ → ℕ → Result jobs.Agent AgentFault) where
   -- the first refusal, or the task
   abbrev pub result_of : List Word → Files → Answer Task
   result_of words files = elim (request_of words) [ None ↦ Err Usage | Some request ↦ task_of files request ]
+
+-- ---- a schedule that can't be performed
+
+-- how many entries stand before the first one whose actor isn't enabled at its place; after an end no actor is
+abbrev pub barred_from : Setting → State → ℕ → List Actor → Option ℕ
+barred_from setting s before [] = None
+barred_from setting s before (actor ∷ actors) = if is_enabled setting s actor then barred_from setting (step setting s actor) (before + 1) actors else Some before
+
+-- the refusal of a replay, which comes with the run
+abbrev pub replay_refusal : Setting → List Actor → Option Refusal
+replay_refusal setting schedule = option_map BadEntry (barred_from setting (opening setting.job) 0 schedule)
