@@ -13,3 +13,9 @@ pub mod Replay
 pub mod Picks
 pub mod Reports
 pub mod Laws
+pub mod Options
+pub mod Words
+pub mod Refusals
+pub mod Results
+pub mod Parts
+pub mod StandsFor
