@@ -25,7 +25,7 @@ use Rattle.instruction_effect.specs.Outcomes.{Outcome, Goes, Throws, Fills, Thro
 use Rattle.instruction_effect.specs.Effect.{effect}
 use Rattle.instruction_effect.specs.CallEntry.{entry_outcome}
 use Rattle.machine_steps.specs.Settings.{Setting}
-use Rattle.machine_steps.specs.Sites.{Stop, stop_of}
+use Rattle.machine_steps.specs.Sites.{Stop, stop_of, behind}
 use Rattle.machine_steps.specs.Throwing.{throws, throws_new, throws_full, class_name_of}
 use Rattle.machine_steps.specs.Loading.{next_load, load_step}
 use Rattle.machine_steps.specs.Linking.{link_step}
@@ -91,9 +91,9 @@ joins setting s classes t thread of =
 
 -- ---- an instruction
 
-abbrev pub outcome_of : Option Stop → Outcome
-outcome_of None = misfit
-outcome_of (Some stop) = effect stop.site stop.code stop.instr
+abbrev pub outcome_of : Setting → State → Option Stop → Outcome
+outcome_of setting s None = misfit
+outcome_of setting s (Some stop) = effect (behind setting s) stop.site stop.code stop.instr
 
 -- the state behind acts that announce, within the step
 abbrev pub announced_state : Setting → State → ThreadNo → List Act → State
@@ -104,7 +104,7 @@ abbrev pub executes : Setting → State → List Class → ThreadNo → Thread �
 executes setting s classes t thread f =
     let first = announcing setting s classes t f (stop_of setting s classes t thread f) f.announced in
     let then_state = announced_state setting s t first in
-    resolved setting then_state classes t (outcome_of (stop_of setting then_state classes t thread (announced f))) >>= λ acts.
+    resolved setting then_state classes t (outcome_of setting then_state (stop_of setting then_state classes t thread (announced f))) >>= λ acts.
     Some (if has_calls then_state.core (actors.Thread t) then first else first ++ acts)
 
 -- ---- a thread without frames
