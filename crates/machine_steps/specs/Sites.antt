@@ -1,5 +1,5 @@
 -- Where a thread stands, and what its top frame's instruction is.
-use Rattle.std.specs.Prelude.{ℕ, List, Option, Some, None, unwrap_or, option_map}
+use Rattle.std.specs.Prelude.{ℕ, List, Option, Some, None, unwrap_or}
 use Rattle.ti_ids.specs.Maybe.{◌>>=◌}
 use Rattle.ti_ids.specs.declared.number.ThreadNo.{ThreadNo}
 use Rattle.class_code.specs.declared.instr.Instr.{Instr}
@@ -33,7 +33,3 @@ stop_of setting s classes t thread f = do
     code = list;
     instr = i;
   })
-
--- the offset behind the instruction at which a frame stands
-abbrev pub behind : Setting → State → MethodFrame → Option ℕ
-behind setting s f = option_map (λ list. unwrap_or (following list f.pc) 65535) (code setting.job setting.turns s.trace s.core.classes f)

@@ -1,5 +1,5 @@
 -- The steps of a thread: the first rule that fits gives it.
-use Rattle.std.specs.Prelude.{ℕ, ◌==◌, Bool, true, false, not, ◌&&◌, List, [], ◌∷◌, ◌++◌, fold, drop, length, Option, Some, None, is_none, if◌then◌else◌}
+use Rattle.std.specs.Prelude.{ℕ, ◌==◌, Bool, true, false, not, ◌&&◌, List, [], ◌∷◌, ◌++◌, fold, drop, length, Option, Some, None, is_none, option_map, unwrap_or, if◌then◌else◌}
 use Rattle.std.specs.Option.{option_map_or, option_and_then}
 use Rattle.ti_ids.specs.Maybe.{◌>>=◌}
 use Rattle.ti_ids.specs.declared.number.ThreadNo.{ThreadNo}
@@ -21,11 +21,13 @@ use Rattle.machine_state.specs.Core.{Core, Thread, MethodFrame, StackFrame, Pend
 use Rattle.machine_state.specs.Trace.{ThreadStart, ThreadEnd, MonitorWaited}
 use Rattle.machine_state.specs.Places.{is_suspended}
 use Rattle.machine_state.specs.Acts.{State, Act, Changes, SetsTop, SetsState, SetsActivity, TakesBack, TakesCall, raises, acted}
+use Rattle.bytecode_local.specs.Effect.{following}
+use Rattle.machine_state.specs.FrameCode.{code}
 use Rattle.instruction_effect.specs.Outcomes.{Outcome, Goes, Throws, Fills, ThrowsObject, NeedsLoad, NeedsLink, NeedsInit, misfit}
 use Rattle.instruction_effect.specs.Effect.{effect}
 use Rattle.instruction_effect.specs.CallEntry.{entry_outcome}
 use Rattle.machine_steps.specs.Settings.{Setting}
-use Rattle.machine_steps.specs.Sites.{Stop, stop_of, behind}
+use Rattle.machine_steps.specs.Sites.{Stop, stop_of}
 use Rattle.machine_steps.specs.Throwing.{throws, throws_new, throws_full, class_name_of}
 use Rattle.machine_steps.specs.Loading.{next_load, load_step}
 use Rattle.machine_steps.specs.Linking.{link_step}
@@ -91,6 +93,11 @@ joins setting s classes t thread of =
 
 -- ---- an instruction
 
+-- the offset behind the instruction of a frame
+abbrev pub behind : Setting → State → MethodFrame → Option ℕ
+behind setting s f = option_map (λ list. unwrap_or (following list f.pc) 65535) (code setting.job setting.turns s.trace s.core.classes f)
+
+-- where no instruction begins at the pc, that is a misfit
 abbrev pub outcome_of : Setting → State → Option Stop → Outcome
 outcome_of setting s None = misfit
 outcome_of setting s (Some stop) = effect (behind setting s) stop.site stop.code stop.instr
