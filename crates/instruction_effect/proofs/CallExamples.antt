@@ -3,6 +3,7 @@ use Rattle.std.specs.Prelude.{◌≡◌, refl, ℕ, ◌+◌, pos, List, [], ◌�
 use Rattle.std.specs.Ordering.{nat_cmp}
 use Rattle.std.specs.FinMap.{empty, get, get-empty}
 use Rattle.monitor_table.specs.Monitors.{Monitor}
+use Rattle.monitor_table.specs.Table.{MonitorMap}
 use Rattle.ti_ids.specs.declared.number.ThreadNo.{ThreadNo}
 use Rattle.ti_ids.specs.declared.number.ObjNo.{ObjNo}
 use Rattle.ti_ids.specs.declared.number.ClassNo.{ClassNo}
@@ -32,9 +33,9 @@ use Rattle.link_versions.specs.Members.{declared_method, declared_virtual, metho
 use Rattle.link_versions.specs.Orders.{lookup_order, superclasses}
 use Rattle.link_versions.specs.Subtypes.{type_of, is_element_below, is_array_below, is_type_below, is_subclass}
 use Rattle.link_versions.specs.Resolution.{resolved_method, from_superclasses, from_superinterfaces, from_object, candidate, candidates, is_overridden, concrete_ones, selected, selected_by}
-use Rattle.machine_state.specs.Core.{Core, Thread, MethodFrame, StackFrame, Free}
-use Rattle.machine_state.specs.Trace.{VMObjectAlloc, MethodExit, FramePop, Returned}
-use Rattle.machine_state.specs.Acts.{Act, Changes, Makes, Enters, Pops, Pushes, SetsTop, raises}
+use Rattle.machine_state.specs.Core.{Core, Thread, MethodFrame, StackFrame, Free, Wanting}
+use Rattle.machine_state.specs.Trace.{VMObjectAlloc, MethodExit, FramePop, Returned, MonitorContendedEnter}
+use Rattle.machine_state.specs.Acts.{Act, Changes, Makes, Enters, Pops, Pushes, SetsTop, raises, SetsActivity}
 use Rattle.instruction_effect.specs.Outcomes.{Site, Outcome, Goes, Throws, NeedsLoad}
 use Rattle.instruction_effect.specs.Calls.{call_outcome}
 use Rattle.instruction_effect.specs.Returns.{return_outcome}
@@ -151,6 +152,16 @@ module _ (core : Core) where
       Changes (Enters (record { 0 = 1 }) me) ∷ Changes (SetsTop me (frame [])) ∷ pushed 1 (Some (record { 0 = 1 })) (reference 1 ∷ []) ∷ [])
   unfolding class_has first_version version_at version_count read_field read_method read_type read_result read_element read_class split_class class_end split_dimensions dimensions resolved_method from_superclasses from_superinterfaces from_object candidate candidates is_overridden concrete_ones superclasses lookup_order declared_method declared_virtual method_name method_desc method_has method_at selected selected_by type_of is_element_below is_array_below is_type_below is_subclass
   virtual_synchronized = rw (no_monitor 1) refl
+
+  abbrev site_with : MonitorMap → Site
+  site_with monitors = record (at (frame (reference 1 ∷ [])) []) { core = record (core_of (thread (frame (reference 1 ∷ [])) [])) { monitors = monitors } }
+
+  -- Another thread owns the monitor of object 1.
+  contended : (monitors : MonitorMap) → get monitors 1 ≡ Some (record { owner = Some (record { 0 = 2 }); entries = 1; notified = []; waiting = [] })
+      → call_outcome (site_with monitors) (instr.Pool pool_op.InvokeVirtual 10)
+      ≡ Goes (raises (MonitorContendedEnter me (record { 0 = 1 })) ∷ Changes (SetsActivity me (Wanting (record { 0 = 1 }))) ∷ [])
+  unfolding class_has first_version version_at version_count read_field read_method read_type read_result read_element read_class split_class class_end split_dimensions dimensions resolved_method from_superclasses from_superinterfaces from_object candidate candidates is_overridden concrete_ones superclasses lookup_order declared_method declared_virtual method_name method_desc method_has method_at selected selected_by type_of is_element_below is_array_below is_type_below is_subclass
+  contended monitors owned = rw owned refl
 
   -- a B has its own `g`
   overridden : calls pool_op.InvokeVirtual 10 (reference 2 ∷ []) ≡ Goes (
