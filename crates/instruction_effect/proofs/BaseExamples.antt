@@ -1,10 +1,14 @@
 -- Base methods and the entries of threads, computed.
-use Rattle.std.specs.Prelude.{◌≡◌, refl, ℕ, pos, negsuc, List, [], ◌∷◌, ◌++◌, Option, Some, None, codes}
+use Rattle.std.specs.Prelude.{◌≡◌, refl, ℕ, pos, negsuc, List, [], ◌∷◌, ◌++◌, Option, Some, None, codes, true, not, map, filter, flat_map, length, is_some}
+use Rattle.std.specs.List.{list_all, list_any}
+use Rattle.class_tree.specs.declared.access.Flag.TheVariants as flags
+use Rattle.class_tree.specs.Flags.{has_flag}
 use Rattle.std.specs.Ordering.{nat_cmp}
 use Rattle.std.specs.FinMap.{empty, get, get-empty}
 use Rattle.std.specs.Fmt.{digits}
 use Rattle.std.specs.Char.Utf16.{utf16_chars}
 use Rattle.monitor_table.specs.Monitors.{Monitor}
+use Rattle.monitor_table.specs.Table.{MonitorMap}
 use Rattle.ti_ids.specs.declared.number.ThreadNo.{ThreadNo}
 use Rattle.ti_ids.specs.declared.number.ClassNo.{ClassNo}
 use Rattle.ti_ids.specs.declared.value.Value.{Value}
@@ -14,7 +18,7 @@ use Rattle.ti_ids.specs.declared.state.ThreadState.TheVariants.{Entering, Runnin
 use Rattle.jv_names.specs.Names.{Name}
 use Rattle.jv_names.specs.DescriptorReading.{class_end, dimensions, split_class, split_dimensions, read_class, read_element, read_type}
 use Rattle.jv_names.specs.DescriptorFlaws.{read_field, read_method, read_result}
-use Rattle.base_set.specs.BaseSet.{BaseClass, object as object_class, thread as thread_class, string as string_class}
+use Rattle.base_set.specs.BaseSet.{BaseClass, base_set, object as object_class, thread as thread_class, string as string_class}
 use Rattle.base_set.specs.BaseTrees.{base_tree}
 use Rattle.java_heap.specs.declared.object.Object.{Object}
 use Rattle.java_heap.specs.declared.object.Content.TheVariants.{Fields, Elements, Text}
@@ -26,15 +30,29 @@ use Rattle.link_versions.specs.Members.{declared_method, declared_virtual, metho
 use Rattle.link_versions.specs.Orders.{lookup_order, superclasses}
 use Rattle.link_versions.specs.Subtypes.{type_of, is_element_below, is_array_below, is_type_below, is_subclass}
 use Rattle.link_versions.specs.Resolution.{candidate, candidates, is_overridden, concrete_ones, selected_by}
-use Rattle.machine_state.specs.Core.{Core, Thread, MethodFrame, Free, Joining}
-use Rattle.machine_state.specs.Trace.{VMObjectAlloc}
-use Rattle.machine_state.specs.Acts.{Act, Changes, Makes, MakesThread, Prints, PutsBehind, Pushes, SetsActivity, SetsState, SetsTop, AddsClass, raises}
+use Rattle.machine_state.specs.Core.{Core, Thread, MethodFrame, Free, Waiting, Joining}
+use Rattle.machine_state.specs.Trace.{MethodName, MonitorWait, VMObjectAlloc}
+use Rattle.machine_state.specs.Acts.{Act, Changes, Makes, GoesToWait, MakesThread, Prints, PutsBehind, Pushes, SetsActivity, SetsState, SetsTop, AddsClass, raises}
 use Rattle.instruction_effect.specs.Outcomes.{Site, Outcome, Goes, Throws, Fills}
-use Rattle.instruction_effect.specs.BaseMethods.{base_outcome}
+use Rattle.instruction_effect.specs.BaseMethods.{base_row, base_rows, is_row_of, base_outcome}
 use Rattle.instruction_effect.specs.BaseForms.{BaseCall}
 use Rattle.instruction_effect.specs.BaseObjects.{waits}
 use Rattle.instruction_effect.specs.BaseTexts.{int_text, string_text, char_at, appends, prints}
 use Rattle.instruction_effect.specs.CallEntry.{entry_outcome}
+
+-- ---- the table: each base method that isn't abstract has a row, and there is no other row
+
+abbrev concrete : BaseClass → List MethodName
+concrete c = map (λ m. record { class = c.name; name = m.name; desc = m.desc }) (filter (λ m. not (has_flag m.flags flags.Abstract)) c.methods)
+
+all_have_rows : list_all (λ m. is_some (base_row m)) (flat_map concrete base_set) ≡ true
+all_have_rows = refl
+
+as_many : length base_rows ≡ length (flat_map concrete base_set)
+as_many = refl
+
+all_are_concrete : list_all (λ r. list_any (λ m. is_row_of m r) (flat_map concrete base_set)) base_rows ≡ true
+all_are_concrete = refl
 
 -- ---- classes: 1 is Object, 2 is Thread, 3 is M, which has a `run` and a static `main`, and 4 is String
 
@@ -179,6 +197,13 @@ module _ (core : Core) where
   waits_unowned : waits (call 100 (reference 1 ∷ []) (reference 1 ∷ [])) (reference 1 ∷ []) ≡ Throws (Changes (SetsTop me (frame [])) ∷ []) (codes "java/lang/IllegalMonitorStateException")
   unfolding class_has first_version version_at version_count read_field read_method read_type read_result read_element read_class split_class class_end split_dimensions dimensions candidate candidates is_overridden concrete_ones superclasses lookup_order declared_method declared_virtual method_name method_desc method_has method_at selected_by type_of is_element_below is_array_below is_type_below is_subclass utf16_chars digits lib.Utf8.encode
   waits_unowned = rw (no_monitor 1) refl
+
+  -- the owner of the monitor of object 1 waits, and its argument stays
+  waits_owned : (monitors : MonitorMap) → get monitors 1 ≡ Some (record { owner = Some me; entries = 2; notified = []; waiting = [] })
+      → waits (record { site = record (at 100 (reference 1 ∷ [])) { core = record (core_of 100) { monitors = monitors } }; before = []; arguments = reference 1 ∷ [] }) (reference 1 ∷ [])
+      ≡ Goes (Changes (GoesToWait (record { 0 = 1 }) me) ∷ Changes (SetsActivity me (Waiting (record { 0 = 1 }))) ∷ raises (MonitorWait me (record { 0 = 1 })) ∷ [])
+  unfolding class_has first_version version_at version_count read_field read_method read_type read_result read_element read_class split_class class_end split_dimensions dimensions candidate candidates is_overridden concrete_ones superclasses lookup_order declared_method declared_virtual method_name method_desc method_has method_at selected_by type_of is_element_below is_array_below is_type_below is_subclass utf16_chars digits lib.Utf8.encode
+  waits_owned monitors owned = rw owned refl
 
   -- ---- entries
 

@@ -1,8 +1,9 @@
 -- Calls and returns, computed.
-use Rattle.std.specs.Prelude.{◌≡◌, refl, ℕ, ◌+◌, pos, List, [], ◌∷◌, Option, Some, None, codes}
+use Rattle.std.specs.Prelude.{◌≡◌, refl, ℕ, ◌+◌, pos, List, [], ◌∷◌, replicate, Option, Some, None, codes}
 use Rattle.std.specs.Ordering.{nat_cmp}
 use Rattle.std.specs.FinMap.{empty, get, get-empty}
 use Rattle.monitor_table.specs.Monitors.{Monitor}
+use Rattle.monitor_table.specs.Table.{MonitorMap}
 use Rattle.ti_ids.specs.declared.number.ThreadNo.{ThreadNo}
 use Rattle.ti_ids.specs.declared.number.ObjNo.{ObjNo}
 use Rattle.ti_ids.specs.declared.number.ClassNo.{ClassNo}
@@ -23,7 +24,7 @@ use Rattle.base_set.specs.BaseSet.{BaseMethod, BaseClass, object as object_class
 use Rattle.base_set.specs.BaseTrees.{base_tree}
 use Rattle.java_heap.specs.declared.object.Content.TheVariants.{Fields, ClassObject}
 use Rattle.java_heap.specs.Objects.{fresh}
-use Rattle.thread_frames.specs.declared.frame.StackEntry.TheVariants.{Java}
+use Rattle.thread_frames.specs.declared.frame.StackEntry.TheVariants.{Java, Init}
 use Rattle.link_versions.specs.declared.class.InitState.TheVariants as states
 use Rattle.link_versions.specs.Classes.{Class, OfFile, first_version, version_at, version_count, class_has}
 use Rattle.jv_names.specs.DescriptorReading.{class_end, dimensions, split_class, split_dimensions, read_class, read_element, read_type}
@@ -32,9 +33,9 @@ use Rattle.link_versions.specs.Members.{declared_method, declared_virtual, metho
 use Rattle.link_versions.specs.Orders.{lookup_order, superclasses}
 use Rattle.link_versions.specs.Subtypes.{type_of, is_element_below, is_array_below, is_type_below, is_subclass}
 use Rattle.link_versions.specs.Resolution.{resolved_method, from_superclasses, from_superinterfaces, from_object, candidate, candidates, is_overridden, concrete_ones, selected, selected_by}
-use Rattle.machine_state.specs.Core.{Core, Thread, MethodFrame, StackFrame, Free}
-use Rattle.machine_state.specs.Trace.{VMObjectAlloc, MethodExit, FramePop, Returned}
-use Rattle.machine_state.specs.Acts.{Act, Changes, Makes, Enters, Pops, Pushes, SetsTop, raises}
+use Rattle.machine_state.specs.Core.{Core, Thread, MethodFrame, StackFrame, Free, Wanting}
+use Rattle.machine_state.specs.Trace.{VMObjectAlloc, MethodExit, FramePop, Returned, MonitorContendedEnter}
+use Rattle.machine_state.specs.Acts.{Act, Changes, Makes, Enters, Pops, Pushes, SetsTop, raises, SetsActivity}
 use Rattle.instruction_effect.specs.Outcomes.{Site, Outcome, Goes, Throws, NeedsLoad}
 use Rattle.instruction_effect.specs.Calls.{call_outcome}
 use Rattle.instruction_effect.specs.Returns.{return_outcome}
@@ -152,6 +153,16 @@ module _ (core : Core) where
   unfolding class_has first_version version_at version_count read_field read_method read_type read_result read_element read_class split_class class_end split_dimensions dimensions resolved_method from_superclasses from_superinterfaces from_object candidate candidates is_overridden concrete_ones superclasses lookup_order declared_method declared_virtual method_name method_desc method_has method_at selected selected_by type_of is_element_below is_array_below is_type_below is_subclass
   virtual_synchronized = rw (no_monitor 1) refl
 
+  abbrev site_with : MonitorMap → Site
+  site_with monitors = record (at (frame (reference 1 ∷ [])) []) { core = record (core_of (thread (frame (reference 1 ∷ [])) [])) { monitors = monitors } }
+
+  -- Another thread owns the monitor of object 1.
+  contended : (monitors : MonitorMap) → get monitors 1 ≡ Some (record { owner = Some (record { 0 = 2 }); entries = 1; notified = []; waiting = [] })
+      → call_outcome (site_with monitors) (instr.Pool pool_op.InvokeVirtual 10)
+      ≡ Goes (raises (MonitorContendedEnter me (record { 0 = 1 })) ∷ Changes (SetsActivity me (Wanting (record { 0 = 1 }))) ∷ [])
+  unfolding class_has first_version version_at version_count read_field read_method read_type read_result read_element read_class split_class class_end split_dimensions dimensions resolved_method from_superclasses from_superinterfaces from_object candidate candidates is_overridden concrete_ones superclasses lookup_order declared_method declared_virtual method_name method_desc method_has method_at selected selected_by type_of is_element_below is_array_below is_type_below is_subclass
+  contended monitors owned = rw owned refl
+
   -- a B has its own `g`
   overridden : calls pool_op.InvokeVirtual 10 (reference 2 ∷ []) ≡ Goes (
       Changes (SetsTop me (frame []))
@@ -197,6 +208,30 @@ module _ (core : Core) where
       Changes (SetsTop me (record (frame (Int (pos 2) ∷ Int (pos 9) ∷ [])) { pc = 7; announced = No })) ∷ [])
   unfolding class_has first_version version_at version_count read_field read_method read_type read_result read_element read_class split_class class_end split_dimensions dimensions resolved_method from_superclasses from_superinterfaces from_object candidate candidates is_overridden concrete_ones superclasses lookup_order declared_method declared_virtual method_name method_desc method_has method_at selected selected_by type_of is_element_below is_array_below is_type_below is_subclass
   base_method = refl
+
+  -- with these further frames beneath, a call of `A.f`, and one of `B.g`
+  abbrev calls_over : List StackFrame → Outcome
+  calls_over below = call_outcome (at (frame (Int (pos 3) ∷ Long (pos 5) ∷ [])) below) (instr.Pool pool_op.InvokeStatic 6)
+
+  -- The 1,025th frame is refused, and no Class object made.
+  too_many_frames : calls_over (replicate 1023 (Init (record { 0 = 1 }))) ≡ Throws [] (codes "java/lang/StackOverflowError")
+  unfolding class_has first_version version_at version_count read_field read_method read_type read_result read_element read_class split_class class_end split_dimensions dimensions resolved_method from_superclasses from_superinterfaces from_object candidate candidates is_overridden concrete_ones superclasses lookup_order declared_method declared_virtual method_name method_desc method_has method_at selected selected_by type_of is_element_below is_array_below is_type_below is_subclass
+  too_many_frames = refl
+
+  abbrev large : ℕ → StackFrame
+  large room = Java (record (frame []) { stack = record { entries = []; room = room } })
+
+  -- The call takes 4 words, and the frame on top 10.
+  too_many_words : calls_over (large 131070 ∷ large 131061 ∷ []) ≡ Throws [] (codes "java/lang/StackOverflowError")
+  unfolding class_has first_version version_at version_count read_field read_method read_type read_result read_element read_class split_class class_end split_dimensions dimensions resolved_method from_superclasses from_superinterfaces from_object candidate candidates is_overridden concrete_ones superclasses lookup_order declared_method declared_virtual method_name method_desc method_has method_at selected selected_by type_of is_element_below is_array_below is_type_below is_subclass
+  too_many_words = refl
+
+  all_words : calls_over (large 131070 ∷ large 131060 ∷ []) ≡ Goes (
+      Changes (Makes (fresh (record { 0 = 6 }) (ClassObject (record { 0 = 2 })))) ∷ raises (VMObjectAlloc me (record { 0 = 3 }) (codes "java/lang/Class"))
+      ∷ Changes (Enters (record { 0 = 3 }) me) ∷ Changes (SetsTop me (frame []))
+      ∷ pushed 0 (Some (record { 0 = 3 })) (Long (pos 5) ∷ Int (pos 0) ∷ Int (pos 3) ∷ []) ∷ [])
+  unfolding class_has first_version version_at version_count read_field read_method read_type read_result read_element read_class split_class class_end split_dimensions dimensions resolved_method from_superclasses from_superinterfaces from_object candidate candidates is_overridden concrete_ones superclasses lookup_order declared_method declared_virtual method_name method_desc method_has method_at selected selected_by type_of is_element_below is_array_below is_type_below is_subclass
+  all_words = rw (no_monitor 3) refl
 
   -- ---- returns of `B.g` and of `A.f`
 
