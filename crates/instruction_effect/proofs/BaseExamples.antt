@@ -4,11 +4,9 @@ use Rattle.std.specs.List.{list_all, list_any}
 use Rattle.class_tree.specs.declared.access.Flag.TheVariants as flags
 use Rattle.class_tree.specs.Flags.{has_flag}
 use Rattle.std.specs.Ordering.{nat_cmp}
-use Rattle.std.specs.FinMap.{empty, get, get-empty}
 use Rattle.std.specs.Fmt.{digits}
 use Rattle.std.specs.Char.Utf16.{utf16_chars}
 use Rattle.monitor_table.specs.Monitors.{Monitor}
-use Rattle.monitor_table.specs.Table.{MonitorMap}
 use Rattle.ti_ids.specs.declared.number.ThreadNo.{ThreadNo}
 use Rattle.ti_ids.specs.declared.number.ClassNo.{ClassNo}
 use Rattle.ti_ids.specs.declared.value.Value.{Value}
@@ -30,7 +28,7 @@ use Rattle.link_versions.specs.Members.{declared_method, declared_virtual, metho
 use Rattle.link_versions.specs.Orders.{lookup_order, superclasses}
 use Rattle.link_versions.specs.Subtypes.{type_of, is_element_below, is_array_below, is_type_below, is_subclass}
 use Rattle.link_versions.specs.Resolution.{candidate, candidates, is_overridden, concrete_ones, selected_by}
-use Rattle.machine_state.specs.Core.{Core, Thread, MethodFrame, Free, Waiting, Joining}
+use Rattle.machine_state.specs.Core.{ObjectMonitor, Core, Thread, MethodFrame, Free, Waiting, Joining}
 use Rattle.machine_state.specs.Trace.{MethodName, MonitorWait, VMObjectAlloc}
 use Rattle.machine_state.specs.Acts.{Act, Changes, Makes, GoesToWait, MakesThread, Prints, PutsBehind, Pushes, SetsActivity, SetsState, SetsTop, AddsClass, raises}
 use Rattle.instruction_effect.specs.Outcomes.{Site, Outcome, Goes, Throws, Fills}
@@ -112,12 +110,10 @@ gone_on entries = record (frame entries) { pc = 7; announced = No }
 abbrev started : MethodFrame → Thread
 started f = record { object = record { 0 = 1 }; state = Running; activity = Free; frames = Java f ∷ [] }
 
-no_monitor : (n : ℕ) → get (empty {X = Monitor} {R = nat_cmp}) n ≡ None
-no_monitor n = get-empty nat_cmp n
 
 module _ (core : Core) where
   abbrev core_of : ℕ → Core
-  core_of limit = record core { heap = record { limit = limit; objects = objects }; monitors = empty; threads = started (frame []) ∷ [] }
+  core_of limit = record core { heap = record { limit = limit; objects = objects }; monitors = []; threads = started (frame []) ∷ [] }
 
   -- where these arguments lie on the stack, the last on top
   abbrev at : ℕ → List Value → Site
@@ -196,14 +192,13 @@ module _ (core : Core) where
 
   waits_unowned : waits (call 100 (reference 1 ∷ []) (reference 1 ∷ [])) (reference 1 ∷ []) ≡ Throws (Changes (SetsTop me (frame [])) ∷ []) (codes "java/lang/IllegalMonitorStateException")
   unfolding class_has first_version version_at version_count read_field read_method read_type read_result read_element read_class split_class class_end split_dimensions dimensions candidate candidates is_overridden concrete_ones superclasses lookup_order declared_method declared_virtual method_name method_desc method_has method_at selected_by type_of is_element_below is_array_below is_type_below is_subclass utf16_chars digits lib.Utf8.encode
-  waits_unowned = rw (no_monitor 1) refl
+  waits_unowned = refl
 
   -- the owner of the monitor of object 1 waits, and its argument stays
-  waits_owned : (monitors : MonitorMap) → get monitors 1 ≡ Some (record { owner = Some me; entries = 2; notified = []; waiting = [] })
-      → waits (record { site = record (at 100 (reference 1 ∷ [])) { core = record (core_of 100) { monitors = monitors } }; before = []; arguments = reference 1 ∷ [] }) (reference 1 ∷ [])
+  waits_owned : waits (record { site = record (at 100 (reference 1 ∷ [])) { core = record (core_of 100) { monitors = record { object = record { 0 = 1 }; monitor = record { owner = Some me; entries = 2; notified = []; waiting = [] } } ∷ [] } }; before = []; arguments = reference 1 ∷ [] }) (reference 1 ∷ [])
       ≡ Goes (Changes (GoesToWait (record { 0 = 1 }) me) ∷ Changes (SetsActivity me (Waiting (record { 0 = 1 }))) ∷ raises (MonitorWait me (record { 0 = 1 })) ∷ [])
   unfolding class_has first_version version_at version_count read_field read_method read_type read_result read_element read_class split_class class_end split_dimensions dimensions candidate candidates is_overridden concrete_ones superclasses lookup_order declared_method declared_virtual method_name method_desc method_has method_at selected_by type_of is_element_below is_array_below is_type_below is_subclass utf16_chars digits lib.Utf8.encode
-  waits_owned monitors owned = rw owned refl
+  waits_owned = refl
 
   -- ---- entries
 

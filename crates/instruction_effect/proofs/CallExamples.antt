@@ -1,9 +1,7 @@
 -- Calls and returns, computed.
 use Rattle.std.specs.Prelude.{◌≡◌, refl, ℕ, ◌+◌, pos, List, [], ◌∷◌, replicate, Option, Some, None, codes}
 use Rattle.std.specs.Ordering.{nat_cmp}
-use Rattle.std.specs.FinMap.{empty, get, get-empty}
 use Rattle.monitor_table.specs.Monitors.{Monitor}
-use Rattle.monitor_table.specs.Table.{MonitorMap}
 use Rattle.ti_ids.specs.declared.number.ThreadNo.{ThreadNo}
 use Rattle.ti_ids.specs.declared.number.ObjNo.{ObjNo}
 use Rattle.ti_ids.specs.declared.number.ClassNo.{ClassNo}
@@ -33,7 +31,7 @@ use Rattle.link_versions.specs.Members.{declared_method, declared_virtual, metho
 use Rattle.link_versions.specs.Orders.{lookup_order, superclasses}
 use Rattle.link_versions.specs.Subtypes.{type_of, is_element_below, is_array_below, is_type_below, is_subclass}
 use Rattle.link_versions.specs.Resolution.{resolved_method, from_superclasses, from_superinterfaces, from_object, candidate, candidates, is_overridden, concrete_ones, selected, selected_by}
-use Rattle.machine_state.specs.Core.{Core, Thread, MethodFrame, StackFrame, Free, Wanting}
+use Rattle.machine_state.specs.Core.{ObjectMonitor, Core, Thread, MethodFrame, StackFrame, Free, Wanting}
 use Rattle.machine_state.specs.Trace.{VMObjectAlloc, MethodExit, FramePop, Returned, MonitorContendedEnter}
 use Rattle.machine_state.specs.Acts.{Act, Changes, Makes, Enters, Pops, Pushes, SetsTop, raises, SetsActivity}
 use Rattle.instruction_effect.specs.Outcomes.{Site, Outcome, Goes, Throws, NeedsLoad}
@@ -107,14 +105,12 @@ abbrev reference : ℕ → Value
 reference n = Ref (Some (record { 0 = n }))
 
 -- nobody owns a monitor
-no_monitor : (n : ℕ) → get (empty {X = Monitor} {R = nat_cmp}) n ≡ None
-no_monitor n = get-empty nat_cmp n
 
 module _ (core : Core) where
   abbrev core_of : Thread → Core
   core_of t = record core {
     heap = record { limit = 100; objects = fresh (record { 0 = 2 }) (Fields []) ∷ fresh (record { 0 = 3 }) (Fields []) ∷ [] };
-    monitors = empty;
+    monitors = [];
     threads = t ∷ [];
   }
 
@@ -142,7 +138,7 @@ module _ (core : Core) where
       ∷ Changes (Enters (record { 0 = 3 }) me) ∷ Changes (SetsTop me (frame (reference 1 ∷ [])))
       ∷ pushed 0 (Some (record { 0 = 3 })) (Long (pos 5) ∷ Int (pos 0) ∷ Int (pos 3) ∷ []) ∷ [])
   unfolding class_has first_version version_at version_count read_field read_method read_type read_result read_element read_class split_class class_end split_dimensions dimensions resolved_method from_superclasses from_superinterfaces from_object candidate candidates is_overridden concrete_ones superclasses lookup_order declared_method declared_virtual method_name method_desc method_has method_at selected selected_by type_of is_element_below is_array_below is_type_below is_subclass
-  static_synchronized = rw (no_monitor 3) refl
+  static_synchronized = refl
 
   few_operands : calls pool_op.InvokeStatic 6 (Int (pos 3) ∷ []) ≡ Throws [] (codes "java/lang/InternalError")
   unfolding class_has first_version version_at version_count read_field read_method read_type read_result read_element read_class split_class class_end split_dimensions dimensions resolved_method from_superclasses from_superinterfaces from_object candidate candidates is_overridden concrete_ones superclasses lookup_order declared_method declared_virtual method_name method_desc method_has method_at selected selected_by type_of is_element_below is_array_below is_type_below is_subclass
@@ -151,17 +147,16 @@ module _ (core : Core) where
   virtual_synchronized : calls pool_op.InvokeVirtual 10 (reference 1 ∷ []) ≡ Goes (
       Changes (Enters (record { 0 = 1 }) me) ∷ Changes (SetsTop me (frame [])) ∷ pushed 1 (Some (record { 0 = 1 })) (reference 1 ∷ []) ∷ [])
   unfolding class_has first_version version_at version_count read_field read_method read_type read_result read_element read_class split_class class_end split_dimensions dimensions resolved_method from_superclasses from_superinterfaces from_object candidate candidates is_overridden concrete_ones superclasses lookup_order declared_method declared_virtual method_name method_desc method_has method_at selected selected_by type_of is_element_below is_array_below is_type_below is_subclass
-  virtual_synchronized = rw (no_monitor 1) refl
+  virtual_synchronized = refl
 
-  abbrev site_with : MonitorMap → Site
+  abbrev site_with : List ObjectMonitor → Site
   site_with monitors = record (at (frame (reference 1 ∷ [])) []) { core = record (core_of (thread (frame (reference 1 ∷ [])) [])) { monitors = monitors } }
 
   -- Another thread owns the monitor of object 1.
-  contended : (monitors : MonitorMap) → get monitors 1 ≡ Some (record { owner = Some (record { 0 = 2 }); entries = 1; notified = []; waiting = [] })
-      → call_outcome (site_with monitors) (instr.Pool pool_op.InvokeVirtual 10)
+  contended : call_outcome (site_with (record { object = record { 0 = 1 }; monitor = record { owner = Some (record { 0 = 2 }); entries = 1; notified = []; waiting = [] } } ∷ [])) (instr.Pool pool_op.InvokeVirtual 10)
       ≡ Goes (raises (MonitorContendedEnter me (record { 0 = 1 })) ∷ Changes (SetsActivity me (Wanting (record { 0 = 1 }))) ∷ [])
   unfolding class_has first_version version_at version_count read_field read_method read_type read_result read_element read_class split_class class_end split_dimensions dimensions resolved_method from_superclasses from_superinterfaces from_object candidate candidates is_overridden concrete_ones superclasses lookup_order declared_method declared_virtual method_name method_desc method_has method_at selected selected_by type_of is_element_below is_array_below is_type_below is_subclass
-  contended monitors owned = rw owned refl
+  contended = refl
 
   -- a B has its own `g`
   overridden : calls pool_op.InvokeVirtual 10 (reference 2 ∷ []) ≡ Goes (
@@ -182,7 +177,7 @@ module _ (core : Core) where
   super_call : calls pool_op.InvokeSpecial 10 (reference 2 ∷ []) ≡ Goes (
       Changes (Enters (record { 0 = 2 }) me) ∷ Changes (SetsTop me (frame [])) ∷ pushed 1 (Some (record { 0 = 2 })) (reference 2 ∷ []) ∷ [])
   unfolding class_has first_version version_at version_count read_field read_method read_type read_result read_element read_class split_class class_end split_dimensions dimensions resolved_method from_superclasses from_superinterfaces from_object candidate candidates is_overridden concrete_ones superclasses lookup_order declared_method declared_virtual method_name method_desc method_has method_at selected selected_by type_of is_element_below is_array_below is_type_below is_subclass
-  super_call = rw (no_monitor 2) refl
+  super_call = refl
 
   null_receiver : calls pool_op.InvokeVirtual 10 (Ref None ∷ []) ≡ Throws [] (codes "java/lang/NullPointerException")
   unfolding class_has first_version version_at version_count read_field read_method read_type read_result read_element read_class split_class class_end split_dimensions dimensions resolved_method from_superclasses from_superinterfaces from_object candidate candidates is_overridden concrete_ones superclasses lookup_order declared_method declared_virtual method_name method_desc method_has method_at selected selected_by type_of is_element_below is_array_below is_type_below is_subclass
@@ -231,7 +226,7 @@ module _ (core : Core) where
       ∷ Changes (Enters (record { 0 = 3 }) me) ∷ Changes (SetsTop me (frame []))
       ∷ pushed 0 (Some (record { 0 = 3 })) (Long (pos 5) ∷ Int (pos 0) ∷ Int (pos 3) ∷ []) ∷ [])
   unfolding class_has first_version version_at version_count read_field read_method read_type read_result read_element read_class split_class class_end split_dimensions dimensions resolved_method from_superclasses from_superinterfaces from_object candidate candidates is_overridden concrete_ones superclasses lookup_order declared_method declared_virtual method_name method_desc method_has method_at selected selected_by type_of is_element_below is_array_below is_type_below is_subclass
-  all_words = rw (no_monitor 3) refl
+  all_words = refl
 
   -- ---- returns of `B.g` and of `A.f`
 
@@ -261,4 +256,4 @@ module _ (core : Core) where
 
   not_owned : returns_from (in_f (Some (record { 0 = 1 })) (Long (pos 8) ∷ [])) [] (instr.Simple (simple.Return kind.Long)) ≡ Throws [] (codes "java/lang/IllegalMonitorStateException")
   unfolding class_has first_version version_at version_count read_field read_method read_type read_result read_element read_class split_class class_end split_dimensions dimensions resolved_method from_superclasses from_superinterfaces from_object candidate candidates is_overridden concrete_ones superclasses lookup_order declared_method declared_virtual method_name method_desc method_has method_at selected selected_by type_of is_element_below is_array_below is_type_below is_subclass
-  not_owned = rw (no_monitor 1) refl
+  not_owned = refl

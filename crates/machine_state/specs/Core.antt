@@ -16,8 +16,7 @@ use Rattle.ti_ids.specs.Actors.{same_actor}
 use Rattle.ti_codes.specs.declared.phase.Phase.{Phase}
 use Rattle.jv_names.specs.Names.{Name}
 use Rattle.java_heap.specs.Heaps.{HeapValue}
-use Rattle.monitor_table.specs.Monitors.{Monitor}
-use Rattle.monitor_table.specs.Table.{MonitorMap, state_of, with_change}
+use Rattle.monitor_table.specs.Monitors.{Monitor, free}
 use Rattle.thread_frames.specs.declared.frame.Frame.{Frame}
 use Rattle.thread_frames.specs.declared.frame.StackEntry.{StackEntry}
 use Rattle.link_versions.specs.declared.class.InitState.{InitState}
@@ -80,6 +79,11 @@ pub record Static : Type 0 where
   pub field : FieldNo
   pub value : Value
 
+-- section 2.11.10: the monitor of an object
+pub record ObjectMonitor : Type 0 where
+  pub object : ObjNo
+  pub monitor : Monitor
+
 -- ---- agents
 
 -- a call of an environment that waits to be performed
@@ -104,7 +108,8 @@ pub record Core : Type 0 where
   -- the static fields that were set; every other one has the value that it begins with
   pub statics : List Static
   pub heap : HeapValue
-  pub monitors : MonitorMap
+  -- those that were ever used, of which each object has one at most; every other one is free
+  pub monitors : List ObjectMonitor
   -- thread 1 first
   pub threads : List Thread
   pub output : List ℕ
@@ -146,11 +151,19 @@ same_field a b = a.class.0 == b.class.0 && a.place == b.place
 abbrev pub static_set : Core → FieldNo → Option Value
 static_set core field = option_map (λ s. s.value) (find (λ s. same_field s.field field) core.statics)
 
+abbrev pub is_monitor_of : ObjNo → ObjectMonitor → Bool
+is_monitor_of object m = m.object.0 == object.0
+
 abbrev pub monitor_at : Core → ObjNo → Monitor
-monitor_at core object = state_of core.monitors object
+monitor_at core object = option_map_or (λ m. m.monitor) (find (is_monitor_of object) core.monitors) free
+
+abbrev pub monitors_with : (Monitor → Monitor) → ObjNo → List ObjectMonitor → List ObjectMonitor
+monitors_with change object [] = record { object = object; monitor = change free } ∷ []
+monitors_with change object (m ∷ monitors) =
+    if is_monitor_of object m then record m { monitor = change m.monitor } ∷ monitors else m ∷ monitors_with change object monitors
 
 abbrev pub with_monitor : (Monitor → Monitor) → ObjNo → Core → Core
-with_monitor change object core = record core { monitors = with_change change core.monitors object }
+with_monitor change object core = record core { monitors = monitors_with change object core.monitors }
 
 -- the calls that wait for an actor
 abbrev pub queue_of : Core → Actor → List Pending

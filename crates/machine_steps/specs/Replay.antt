@@ -1,6 +1,5 @@
 -- Steps one after another: the state after a schedule, and which schedules can be run.
 use Rattle.std.specs.Prelude.{ℕ, ◌+◌, List, [], ◌∷◌, ◌++◌, map, replicate, length, Option, Some, None, false}
-use Rattle.std.specs.FinMap.{empty}
 use Rattle.ti_ids.specs.declared.number.EnvNo.{EnvNo}
 use Rattle.ti_ids.specs.declared.actor.Actor.{Actor}
 use Rattle.ti_ids.specs.declared.actor.Actor.TheVariants.{Vm}
@@ -43,7 +42,7 @@ opening_core job = record {
   failures = [];
   statics = [];
   heap = record { limit = job.limits.heap; objects = [] };
-  monitors = empty;
+  monitors = [];
   threads = [];
   output = [];
   queues = record { actor = Vm; calls = load_calls_from 1 job.agents } ∷ [];

@@ -21,7 +21,8 @@ use Rattle.ti_ids.specs.Maybe.{◌>>=◌}
 use Rattle.report_text.specs.Runs.{runs_of}
 use Rattle.machine_state.specs.Jobs.{counted}
 use Rattle.machine_state.specs.Core as core
-use Rattle.machine_state.specs.Core.{MethodFrame, StackFrame, failure_of, static_set, queue_of, frames_at}
+use Rattle.machine_state.specs.Core.{MethodFrame, StackFrame, failure_of, static_set, queue_of, frames_at, monitor_at}
+use Rattle.monitor_table.specs.Table.{state_of}
 use Rattle.machine_state.specs.Trace.{Place, FieldName, Trace}
 use Rattle.machine_state.specs.Environments.{Scope, is_disposed, capabilities_of, has_capability, setting, rules_of}
 use Rattle.machine_state.specs.Chains.{added, hook_capable}
@@ -111,7 +112,7 @@ module _ (w : Setting) (s : State) where
     pub phase : p.phase ≡ s.core.phase
     pub died : p.died ≡ s.core.died
     pub heap : p.heap ≡ s.core.heap
-    pub monitors : p.monitors ≡ s.core.monitors
+    pub monitors : (object : ObjNo) → state_of p.monitors object ≡ monitor_at s.core object
     pub threads : AllZip ThreadStands p.threads s.core.threads
     pub classes : p.classes ≡ classes_now w s
     pub entered : p.entered ≡ map (λ c. c.entered) s.core.classes
