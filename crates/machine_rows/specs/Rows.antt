@@ -1,5 +1,11 @@
 -- Worked rows: class files, and what their runs report.
-use Rattle.std.specs.Prelude.{ℕ, List, [], ◌∷◌, ◌++◌, None, true, codes, replicate}
+use Rattle.std.specs.Prelude.{◌≡◌, ℕ, List, [], ◌∷◌, ◌++◌, Some, None, true, codes, replicate}
+use Rattle.ti_ids.specs.declared.actor.End.{End}
+use Rattle.ti_ids.specs.declared.actor.End.TheVariants.{Dead, Stuck}
+use Rattle.machine_steps.specs.Ends.{end}
+use Rattle.machine_steps.specs.Replay.{state}
+use Rattle.machine_steps.specs.Picks.{picked}
+use Rattle.machine_steps.specs.Reports.{report}
 use Rattle.ti_ids.specs.declared.actor.Actor.{Actor}
 use Rattle.ti_ids.specs.declared.actor.Actor.TheVariants.{Vm, Thread}
 use Rattle.machine_state.specs.Jobs.{File, Job}
@@ -21,6 +27,12 @@ setting_of job = record { job = job; turns = λ env set class bytes. None; answe
 
 abbrev pub thread : ℕ → Actor
 thread n = Thread (record { 0 = n })
+
+-- One worker picks this schedule, it ends so, and this text is the report of it.
+pub record IsRow (setting : Setting) (schedule : List Actor) (e : End) (text : List ℕ) : Type 0 where
+  pub picks : picked setting ≡ schedule
+  pub ends : end setting (state setting schedule) ≡ Some e
+  pub writes : report setting schedule (Some e) ≡ text
 
 -- ---- add prints five
 
@@ -44,6 +56,9 @@ add_schedule = replicate 2 Vm ++ replicate 13 (thread 1) ++ replicate 2 Vm
 abbrev pub add_text : List ℕ
 add_text = codes "report 1\nprofile 1\nmain Add\nschedule v:2 t1:13 v:2\nsteps 17\nend dead\nthread 1 ended\noutput 2\n5\n\nagents 0\n"
 
+abbrev pub AddPrintsFive : Type 0
+AddPrintsFive = IsRow add add_schedule Dead add_text
+
 -- ---- number edges
 
 abbrev pub edges_five : List ℕ
@@ -66,6 +81,9 @@ edges_schedule = replicate 2 Vm ++ replicate 23 (thread 1) ++ replicate 2 Vm
 
 abbrev pub edges_text : List ℕ
 edges_text = codes "report 1\nprofile 1\nmain Five\nschedule v:2 t1:23 v:2\nsteps 27\nend dead\nthread 1 ended\noutput 16\n-2147483648\n0\n2\n\nagents 0\n"
+
+abbrev pub NumberEdges : Type 0
+NumberEdges = IsRow edges edges_schedule Dead edges_text
 
 -- ---- superclass initializer
 
@@ -96,6 +114,9 @@ superclass_schedule = replicate 2 Vm ++ replicate 17 (thread 1) ++ replicate 2 V
 abbrev pub superclass_text : List ℕ
 superclass_text = codes "report 1\nprofile 1\nmain B\nschedule v:2 t1:17 v:2\nsteps 21\nend dead\nthread 1 ended\noutput 2\n1\n\nagents 0\n"
 
+abbrev pub SuperclassInitializer : Type 0
+SuperclassInitializer = IsRow superclass superclass_schedule Dead superclass_text
+
 -- ---- uncaught exception
 
 abbrev pub uncaught_z : List ℕ
@@ -113,6 +134,9 @@ uncaught_schedule = replicate 2 Vm ++ replicate 11 (thread 1) ++ replicate 2 Vm
 
 abbrev pub uncaught_text : List ℕ
 uncaught_text = codes "report 1\nprofile 1\nmain Z\nschedule v:2 t1:11 v:2\nsteps 15\nend dead\nthread 1 uncaught java/lang/ArithmeticException\noutput 0\n\nagents 0\n"
+
+abbrev pub UncaughtException : Type 0
+UncaughtException = IsRow uncaught uncaught_schedule Dead uncaught_text
 
 -- ---- deadlock is stuck
 
@@ -138,4 +162,7 @@ deadlock_schedule = replicate 2 Vm ++ replicate 16 (thread 1) ++ replicate 3 (th
 
 abbrev pub deadlock_text : List ℕ
 deadlock_text = codes "report 1\nprofile 1\nmain D\nschedule v:2 t1:16 t2:3 t1:2\nsteps 23\nend stuck\nthread 1 live\nthread 2 live\noutput 0\n\nagents 0\n"
+
+abbrev pub DeadlockIsStuck : Type 0
+DeadlockIsStuck = IsRow deadlock deadlock_schedule Stuck deadlock_text
 

@@ -1,2 +1,6 @@
-//! Worked rows, computed by the definitions of the machine alone: the schedule that one worker picks, how it ends, and its report.
+//! Worked rows, computed by the definitions of the machine alone.
 #![tactic(auto)]
+
+mod computed;
+
+pub use computed::worked_rows;
