@@ -1,0 +1,37 @@
+-- Entering the monitor of an object, as `monitorenter` and the calls of synchronized methods do (JVM specification 2.11.10 and 6.5), and
+-- what JVM TI hears of it ("Monitor Contended Enter", "Monitor Contended Entered").
+use Rattle.std.specs.Prelude.{Bool, true, false, ◌==◌, List, [], ◌∷◌, Option, Some, None, if◌then◌else◌}
+use Rattle.ti_ids.specs.declared.number.ThreadNo.{ThreadNo}
+use Rattle.ti_ids.specs.declared.number.ObjNo.{ObjNo}
+use Rattle.machine_state.specs.Core.{Activity, Free, Wanting, monitor_at}
+use Rattle.machine_state.specs.Trace.{MonitorContendedEnter, MonitorContendedEntered}
+use Rattle.machine_state.specs.Acts.{Act, Changes, Enters, SetsActivity, raises}
+use Rattle.instruction_effect.specs.Outcomes.{Site, Outcome, Goes}
+
+-- the thread may enter a monitor of this owner: nobody owns it, or the thread itself does
+abbrev pub may_enter : ThreadNo → Option ThreadNo → Bool
+may_enter t None = true
+may_enter t (Some owner) = owner.0 == t.0
+
+-- the thread has met this monitor before, when another one owned it
+abbrev pub wants : Activity → ObjNo → Bool
+wants (Wanting wanted) object = wanted.0 == object.0
+wants _ object = false
+
+-- The acts that enter it. A thread that wanted it wants it no more.
+abbrev pub entering_acts : Site → ObjNo → List Act
+entering_acts site object =
+    if wants site.thread.activity object
+    then Changes (Enters object site.t) ∷ Changes (SetsActivity site.t Free) ∷ raises (MonitorContendedEntered site.t object) ∷ []
+    else Changes (Enters object site.t) ∷ []
+
+-- The acts of a thread that finds it owned by another one: only the first time does it do anything.
+abbrev pub wanting_acts : Site → ObjNo → List Act
+wanting_acts site object =
+    if wants site.thread.activity object then [] else raises (MonitorContendedEnter site.t object) ∷ Changes (SetsActivity site.t (Wanting object)) ∷ []
+
+-- The monitor must be entered, and what comes then goes by the acts that enter it. While another thread owns it the frame stays at the
+-- instruction.
+abbrev pub entering : Site → ObjNo → (List Act → Outcome) → Outcome
+entering site object so =
+    if may_enter site.t (monitor_at site.core object).owner then so (entering_acts site object) else Goes (wanting_acts site object)

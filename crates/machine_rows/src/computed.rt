@@ -1,0 +1,20 @@
+ghost use Rattle.machine_rows.specs.Rows.{AddPrintsFive, NumberEdges, SuperclassInitializer, UncaughtException, DeadlockIsStuck};
+
+/// Does nothing, and is there for its contract: small programs, the schedule that one worker picks for each, how it ends, and the report of
+/// it, byte for byte.
+pub fn worked_rows()
+    // `2 + 3` is printed.
+    ensures add { AddPrintsFive }
+
+    // The least int is divided by -1, and 1 is shifted left by 33.
+    ensures edges { NumberEdges }
+
+    // The superclass is initialized before the class.
+    ensures superclass { SuperclassInitializer }
+
+    // A division by zero ends the thread.
+    ensures uncaught { UncaughtException }
+
+    // Two threads wait for each other: no actor is ready.
+    ensures deadlock { DeadlockIsStuck }
+{}

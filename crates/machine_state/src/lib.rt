@@ -1,0 +1,7 @@
+//! What the machine is at one moment, and what follows from what has happened so far: the job, the core and the trace, and, as
+//! functions of the trace, versions, code, masks, logs, tags and places. The crate holds definitions, in `specs/`, and their law.
+#![tactic(auto)]
+
+mod laws;
+
+pub use laws::state_laws;

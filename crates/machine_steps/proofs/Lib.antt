@@ -1,0 +1,5 @@
+pub mod Growing
+pub mod Stepping
+pub mod Picking
+pub mod Ending
+pub mod LoadingOnce

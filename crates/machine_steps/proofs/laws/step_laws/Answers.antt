@@ -1,0 +1,21 @@
+use Rattle.machine_steps.proofs.Stepping.{counts_one, adds_records, output_grows, objects_stay, classes_stay}
+use Rattle.machine_steps.proofs.LoadingOnce.{loads_once}
+use Rattle.machine_steps.proofs.laws.step_laws.Goals as goal
+
+pub returns-clause-counts : goal.returns-clause-counts
+returns-clause-counts c = counts_one
+
+pub returns-clause-records : goal.returns-clause-records
+returns-clause-records c = adds_records
+
+pub returns-clause-output : goal.returns-clause-output
+returns-clause-output c = output_grows
+
+pub returns-clause-objects : goal.returns-clause-objects
+returns-clause-objects c = objects_stay
+
+pub returns-clause-classes : goal.returns-clause-classes
+returns-clause-classes c = classes_stay
+
+pub returns-clause-loads : goal.returns-clause-loads
+returns-clause-loads c = loads_once

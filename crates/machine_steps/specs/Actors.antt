@@ -1,0 +1,105 @@
+-- The steps of the machine itself and of agents, and which actor may make the next step.
+use Rattle.std.specs.Prelude.{ℕ, codes, ◌+◌, Bool, true, false, not, ◌&&◌, nat_le, List, [], ◌∷◌, ◌++◌, map, length, position, Option, Some, None, is_some, if◌then◌else◌}
+use Rattle.std.specs.List.{list_all}
+use Rattle.std.specs.Option.{option_map_or}
+use Rattle.ti_ids.specs.Maybe.{◌>>=◌}
+use Rattle.ti_ids.specs.declared.number.EnvNo.{EnvNo}
+use Rattle.ti_ids.specs.declared.number.FieldNo.{FieldNo}
+use Rattle.ti_ids.specs.declared.number.ClassNo.{ClassNo}
+use Rattle.ti_ids.specs.declared.actor.Actor.{Actor}
+use Rattle.ti_ids.specs.declared.actor.Actor.TheVariants.{Vm, Thread, Agent}
+use Rattle.ti_ids.specs.declared.value.Value.TheVariants as value
+use Rattle.ti_codes.specs.declared.phase.Phase.{Phase}
+use Rattle.ti_codes.specs.declared.phase.Phase.TheVariants as phases
+use Rattle.jv_names.specs.Names.{Name}
+use Rattle.base_set.specs.BaseSet.{base_set, has_name}
+use Rattle.java_heap.specs.Objects.{fresh}
+use Rattle.java_heap.specs.declared.object.Content.TheVariants.{Fields}
+use Rattle.link_versions.specs.declared.class.InitState.TheVariants as states
+use Rattle.machine_state.specs.Jobs as jobs
+use Rattle.machine_state.specs.Jobs.{Job, ScriptCall, agent_at, counted}
+use Rattle.machine_state.specs.Core.{Core, has_ended, queue_of, script_place}
+use Rattle.machine_state.specs.Trace.{Started, Inited, Died, VMStart, VMInit, VMDeath}
+use Rattle.machine_state.specs.Environments.{is_disposed}
+use Rattle.machine_state.specs.Logs.{log}
+use Rattle.machine_state.specs.Acts.{State, Act, Changes, Notes, Makes, PutsStatic, MakesThread, AddsClass, SetsPhase, Dies, TakesScript, raises}
+use Rattle.machine_steps.specs.Settings.{Setting}
+use Rattle.machine_steps.specs.Sites.{classes_now}
+use Rattle.machine_steps.specs.Threads.{performs_call, has_calls, is_live, thread_acts}
+
+-- ---- the machine's own steps
+
+-- the number of a base class: its place in the base set, counted from 1
+abbrev pub base_class : Name → ClassNo
+base_class name = record { 0 = option_map_or (λ place. place + 1) (position (has_name name) base_set) 0 }
+
+-- each base class is there, linked and initialized
+abbrev pub adds_base : List Act
+adds_base = map (λ c. Changes (AddsClass c.name states.Initialized)) base_set
+
+-- object 1 is `System.out`
+abbrev pub system_out : FieldNo
+system_out = record { class = base_class (codes "java/lang/System"); place = 0 }
+
+abbrev pub makes_instance : Name → Act
+makes_instance name = Changes (Makes (fresh (base_class name) (Fields [])))
+
+-- Object 2 is the error for a full heap, and object 3 the main Thread. All three take 6 heap words.
+abbrev pub makes_first : List Act
+makes_first =
+    makes_instance (codes "java/io/PrintStream") ∷ makes_instance (codes "java/lang/OutOfMemoryError") ∷ makes_instance (codes "java/lang/Thread")
+    ∷ Changes (PutsStatic system_out (value.Ref (Some (record { 0 = 1 })))) ∷ []
+
+abbrev pub starts : List Act
+starts = adds_base ++ makes_first ++ Changes (SetsPhase phases.Start) ∷ Notes Started ∷ raises VMStart ∷ []
+
+abbrev pub inits : List Act
+inits = Changes (SetsPhase phases.Live) ∷ Changes (MakesThread (record { 0 = 3 })) ∷ Notes Inited ∷ raises (VMInit (record { 0 = 1 })) ∷ []
+
+-- VMDeath is raised once every thread has ended, and then the machine is dead
+abbrev pub live_acts : Bool → Bool → Option (List Act)
+live_acts true all_ended = Some (Changes (SetsPhase phases.Dead) ∷ [])
+live_acts false true = Some (Changes Dies ∷ Notes Died ∷ raises VMDeath ∷ [])
+live_acts false false = None
+
+abbrev pub phase_acts : Core → Phase → Option (List Act)
+phase_acts core phases.OnLoad = Some starts
+phase_acts core phases.Primordial = None
+phase_acts core phases.Start = Some inits
+phase_acts core phases.Live = live_acts core.died (list_all has_ended core.threads)
+phase_acts core phases.Dead = None
+
+-- a call that waits for it comes first
+abbrev pub machine_acts : Setting → State → Option (List Act)
+machine_acts setting s = if has_calls s.core Vm then performs_call setting s Vm (queue_of s.core Vm) else phase_acts s.core s.core.phase
+
+-- ---- the steps of an agent
+
+-- in phase Live, before VMDeath, while no call waits for the machine and its environment isn't disposed
+abbrev pub may_script : State → EnvNo → Bool
+may_script s env = is_live s.core.phase && not s.core.died && not (has_calls s.core Vm) && not (is_disposed s.trace env)
+
+-- the next call of its script, once its log has so many lines
+abbrev pub script_call : Setting → State → EnvNo → ScriptCall → Option (List Act)
+script_call setting s env c =
+    if nat_le c.at (length (log setting.job s.trace env)) then Some (Changes (TakesScript env) ∷ setting.answers s env c.call (Agent env)) else None
+
+abbrev pub script_acts : Setting → State → EnvNo → jobs.Agent → Option (List Act)
+script_acts setting s env agent = counted agent.script (script_place s.core env + 1) >>= script_call setting s env
+
+abbrev pub agent_acts : Setting → State → EnvNo → jobs.Agent → Option (List Act)
+agent_acts setting s env agent =
+    if may_script s env
+    then (if has_calls s.core (Agent env) then performs_call setting s (Agent env) (queue_of s.core (Agent env)) else script_acts setting s env agent)
+    else None
+
+-- ---- every actor
+
+-- the acts of an actor's next step; None where it isn't ready
+abbrev pub next_acts : Setting → State → Actor → Option (List Act)
+next_acts setting s Vm = machine_acts setting s
+next_acts setting s (Thread t) = thread_acts setting s (classes_now setting s) t
+next_acts setting s (Agent env) = agent_at setting.job env >>= agent_acts setting s env
+
+abbrev pub is_ready : Setting → State → Actor → Bool
+is_ready setting s actor = is_some (next_acts setting s actor)

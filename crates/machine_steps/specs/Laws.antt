@@ -1,0 +1,95 @@
+-- The laws of the steps: what holds of every setting, state and schedule.
+use Rattle.std.specs.Prelude.{◌≡◌, ℕ, ◌+◌, ◌≤◌, ◌<◌, ◌^◌, List, [], ◌∷◌, ◌++◌, length, map, Option, Some, None, true, false, IsTrue}
+use Rattle.std.specs.List.{AllByRecursion}
+use Rattle.ti_ids.specs.declared.actor.Actor.{Actor}
+use Rattle.ti_ids.specs.declared.actor.End.{End}
+use Rattle.jv_names.specs.Names.{Name}
+use Rattle.link_versions.specs.Classes.{Class, number_of}
+use Rattle.report_text.specs.Named.{AllNamed}
+use Rattle.report_text.specs.Stated.{stated}
+use Rattle.machine_state.specs.Core.{Core, failure_of}
+use Rattle.machine_state.specs.Trace.{Entry}
+use Rattle.machine_state.specs.Acts.{State}
+use Rattle.machine_steps.specs.Settings.{Setting}
+use Rattle.machine_steps.specs.Loading.{next_load, Loads}
+use Rattle.machine_steps.specs.Ends.{end, is_enabled}
+use Rattle.machine_steps.specs.Actors.{is_ready}
+use Rattle.machine_steps.specs.Replay.{step, state, Runs}
+use Rattle.machine_steps.specs.Picks.{picked}
+use Rattle.machine_steps.specs.Reports.{report}
+
+-- ---- ends
+
+-- After an end no actor is enabled.
+abbrev pub NoneAfterEnd : Type 0
+NoneAfterEnd = (setting : Setting) (s : State) (e : End) (actor : Actor) → end setting s ≡ Some e → is_enabled setting s actor ≡ false
+
+-- Where there is no end, a step is left.
+abbrev pub HasStepLeft : Type 0
+HasStepLeft = (setting : Setting) (s : State) → end setting s ≡ None → s.steps < setting.job.limits.steps
+
+-- ---- steps
+
+-- A step of an actor that is ready adds one to the number of steps.
+abbrev pub CountsOne : Type 0
+CountsOne = (setting : Setting) (s : State) (actor : Actor) → is_ready setting s actor ≡ true → (step setting s actor).steps ≡ s.steps + 1
+
+-- an entry has this step's number and its actor
+abbrev pub IsOfStep : State → Actor → Entry → Type 0
+IsOfStep s actor e = (e.step ≡ s.steps) × (e.actor ≡ actor)
+
+-- a trace goes on by entries of this step
+pub record GrowsBy (s : State) (actor : Actor) (after : State) : Type 0 where
+  pub more : List Entry
+  pub grown : after.trace ≡ s.trace ++ more
+  pub own : AllByRecursion (IsOfStep s actor) more
+
+-- It adds its records to the end of the trace, each with this step's number and its actor.
+abbrev pub AddsRecords : Type 0
+AddsRecords = (setting : Setting) (s : State) (actor : Actor) → GrowsBy s actor (step setting s actor)
+
+-- ---- what only grows
+
+-- a list goes on
+pub record GoesOn {A : Type 0} (before after : List A) : Type 0 where
+  pub more : List A
+  pub grown : after ≡ before ++ more
+
+abbrev pub OutputGrows : Type 0
+OutputGrows = (setting : Setting) (s : State) (actor : Actor) → GoesOn s.core.output (step setting s actor).core.output
+
+-- Objects keep their numbers: the classes of those that there were are those of the first objects there are.
+abbrev pub ObjectsStay : Type 0
+ObjectsStay = (setting : Setting) (s : State) (actor : Actor) → GoesOn (map (λ o. o.class) s.core.heap.objects) (map (λ o. o.class) (step setting s actor).core.heap.objects)
+
+-- ---- classes
+
+-- Only a class that isn't there is loaded, and none whose load has failed.
+pub record IsNew (core : Core) (classes : List Class) (name : Name) : Type 0 where
+  pub absent : number_of classes name ≡ None
+  pub untried : failure_of core name ≡ None
+
+abbrev pub LoadsOnce : Type 0
+LoadsOnce = (setting : Setting) (core : Core) (classes : List Class) (wanted name : Name) → next_load setting core classes wanted ≡ Loads name → IsNew core classes name
+
+-- The names of the classes that there were stay in their places: new ones come before them.
+pub record ComesBefore (before after : List Name) : Type 0 where
+  pub new : List Name
+  pub grown : after ≡ new ++ before
+
+abbrev pub ClassesStay : Type 0
+ClassesStay = (setting : Setting) (s : State) (actor : Actor) → ComesBefore (map (λ c. c.name) s.core.classes) (map (λ c. c.name) (step setting s actor).core.classes)
+
+-- ---- schedules
+
+-- The picked schedule can be run.
+abbrev pub PickedRuns : Type 0
+PickedRuns = (setting : Setting) → Runs setting (picked setting)
+
+-- It stops at an end.
+abbrev pub PickedEnds : Type 0
+PickedEnds = (setting : Setting) → end setting (state setting (picked setting)) ≡ None → ⊥
+
+-- The report of a schedule states it.
+abbrev pub StatesSchedule : Type 0
+StatesSchedule = (setting : Setting) (schedule : List Actor) (e : Option End) → AllNamed schedule → length schedule < 10 ^ 9 → stated (report setting schedule e) ≡ Some schedule
