@@ -3,10 +3,8 @@ use Rattle.std.specs.Prelude.{◌≡◌, refl, ℕ, pos, negsuc, List, [], ◌�
 use Rattle.std.specs.List.{list_all, list_any}
 use Rattle.class_tree.specs.declared.access.Flag.TheVariants as flags
 use Rattle.class_tree.specs.Flags.{has_flag}
-use Rattle.std.specs.Ordering.{nat_cmp}
 use Rattle.std.specs.Fmt.{digits}
 use Rattle.std.specs.Char.Utf16.{utf16_chars}
-use Rattle.monitor_table.specs.Monitors.{Monitor}
 use Rattle.ti_ids.specs.declared.number.ThreadNo.{ThreadNo}
 use Rattle.ti_ids.specs.declared.number.ClassNo.{ClassNo}
 use Rattle.ti_ids.specs.declared.value.Value.{Value}
@@ -28,7 +26,7 @@ use Rattle.link_versions.specs.Members.{declared_method, declared_virtual, metho
 use Rattle.link_versions.specs.Orders.{lookup_order, superclasses}
 use Rattle.link_versions.specs.Subtypes.{type_of, is_element_below, is_array_below, is_type_below, is_subclass}
 use Rattle.link_versions.specs.Resolution.{candidate, candidates, is_overridden, concrete_ones, selected_by}
-use Rattle.machine_state.specs.Core.{ObjectMonitor, Core, Thread, MethodFrame, Free, Waiting, Joining}
+use Rattle.machine_state.specs.Core.{Core, Thread, MethodFrame, Free, Waiting, Joining}
 use Rattle.machine_state.specs.Trace.{MethodName, MonitorWait, VMObjectAlloc}
 use Rattle.machine_state.specs.Acts.{Act, Changes, Makes, GoesToWait, MakesThread, Prints, PutsBehind, Pushes, SetsActivity, SetsState, SetsTop, AddsClass, raises}
 use Rattle.instruction_effect.specs.Outcomes.{Site, Outcome, Goes, Throws, Fills}
@@ -109,7 +107,6 @@ gone_on entries = record (frame entries) { pc = 7; announced = No }
 
 abbrev started : MethodFrame → Thread
 started f = record { object = record { 0 = 1 }; state = Running; activity = Free; frames = Java f ∷ [] }
-
 
 module _ (core : Core) where
   abbrev core_of : ℕ → Core

@@ -1,7 +1,5 @@
 -- Calls and returns, computed.
 use Rattle.std.specs.Prelude.{◌≡◌, refl, ℕ, ◌+◌, pos, List, [], ◌∷◌, replicate, Option, Some, None, codes}
-use Rattle.std.specs.Ordering.{nat_cmp}
-use Rattle.monitor_table.specs.Monitors.{Monitor}
 use Rattle.ti_ids.specs.declared.number.ThreadNo.{ThreadNo}
 use Rattle.ti_ids.specs.declared.number.ObjNo.{ObjNo}
 use Rattle.ti_ids.specs.declared.number.ClassNo.{ClassNo}

@@ -1,15 +1,13 @@
 -- What comes of an instruction, and the forms in which the families of instructions say it.
-use Rattle.std.specs.Prelude.{ℕ, ◌+◌, Bool, true, false, not, ◌&&◌, ◌==◌, nat_le, List, [], ◌∷◌, ◌++◌, length, Option, Some, None, codes, if◌then◌else◌}
+use Rattle.std.specs.Prelude.{ℕ, ◌+◌, Bool, ◌==◌, nat_le, List, [], ◌∷◌, ◌++◌, length, Option, Some, None, codes, if◌then◌else◌}
 use Rattle.ti_ids.specs.declared.number.ThreadNo.{ThreadNo}
 use Rattle.ti_ids.specs.declared.number.ObjNo.{ObjNo}
 use Rattle.ti_ids.specs.declared.number.ClassNo.{ClassNo}
-use Rattle.ti_ids.specs.declared.value.Value.{Value}
 use Rattle.jv_names.specs.Names.{Name}
 use Rattle.jv_names.specs.declared.descriptor.ElementType.{ElementType}
 use Rattle.jv_names.specs.declared.descriptor.ElementType.TheVariants as element_type
 use Rattle.jv_names.specs.declared.descriptor.FieldType.{FieldType}
 use Rattle.class_tree.specs.declared.pool.Const.{Const}
-use Rattle.java_heap.specs.declared.object.Object.{Object}
 use Rattle.java_heap.specs.declared.object.Content.{Content}
 use Rattle.java_heap.specs.Objects.{words_of, fresh}
 use Rattle.java_heap.specs.Heaps.{HeapValue, words_taken, next_number}
@@ -20,7 +18,6 @@ use Rattle.bytecode_local.specs.Changes.{Change, takes, changed}
 use Rattle.machine_state.specs.Core.{Core, Thread, MethodFrame}
 use Rattle.machine_state.specs.Linked.{array_type}
 use Rattle.machine_state.specs.Trace.{VMObjectAlloc}
-use Rattle.machine_state.specs.Acts as acts
 use Rattle.machine_state.specs.Acts.{Act, Changes, Makes, SetsTop, AddsClass, raises}
 
 -- Where a thread stands at an instruction: the thread and its top frame, the constant pool that the instruction's indices name, and

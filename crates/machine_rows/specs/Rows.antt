@@ -165,4 +165,3 @@ deadlock_text = codes "report 1\nprofile 1\nmain D\nschedule v:2 t1:16 t2:3 t1:2
 
 abbrev pub DeadlockIsStuck : Type 0
 DeadlockIsStuck = IsRow deadlock deadlock_schedule Stuck deadlock_text
-

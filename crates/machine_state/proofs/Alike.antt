@@ -1,7 +1,6 @@
 -- Lists of classes that differ only in how far their classes are, and lists with further classes before them.
-use Rattle.std.proofs.Common.{◌≡◌, ◌∙◌, ◌≤◌, ◌<◌, ℕ, zero, suc, ◌+◌, ◌==◌, List, [], ◌∷◌, ◌++◌, map, length, take, ◌-◌, Option, Some, None, Bool, true, false, cond, refl, sym, ap, subst, arith, length-append}
-use Rattle.std.specs.Prelude.{slice_get, option_map, bytes_eq}
-use Rattle.std.specs.List.{filter_map}
+use Rattle.std.proofs.Common.{◌≡◌, ◌∙◌, ◌≤◌, ℕ, suc, ◌==◌, List, [], ◌∷◌, ◌++◌, length, ◌-◌, Option, Some, None, Bool, true, false, cond, refl, sym, ap, arith, length-append}
+use Rattle.std.specs.Prelude.{slice_get, option_map}
 use Rattle.std.specs.Option.{option_and_then, option_map_or}
 use Rattle.std.proofs.lemmas.Bool.{eqb-true}
 use Rattle.ti_ids.specs.declared.number.ClassNo.{ClassNo}
@@ -16,7 +15,7 @@ use Rattle.link_versions.specs.ReadyCode.{code_in}
 use Rattle.class_tree.specs.Tree.{text_at}
 use Rattle.jv_names.specs.declared.descriptor.ElementType.{ElementType}
 use Rattle.jv_names.specs.declared.descriptor.ElementType.TheVariants as element_type
-use Rattle.link_versions.specs.Changes.{array_class, file_class, element_by}
+use Rattle.link_versions.specs.Changes.{array_class, element_by}
 use Rattle.machine_state.specs.Jobs.{Job}
 use Rattle.machine_state.specs.Core.{CoreClass}
 use Rattle.machine_state.specs.Trace.{Trace}
@@ -128,9 +127,10 @@ linked_alike job turns trace (c ∷ cs) [] e = absurd cc
 linked_alike job turns trace (c ∷ cs) (d ∷ ds) e =
     let same : c.name ≡ d.name = cc in let rest : names_of cs ≡ names_of ds = cc in
     let below = linked_alike job turns trace cs ds rest in
-    let f = number_of (linked job turns trace cs) in let g = number_of (linked job turns trace ds) in
-    (linked_name job turns trace f c ∙ same ∙ sym (linked_name job turns trace g d),
-     (class_kind_same job turns trace f g c d same (λ name. alike_number (linked job turns trace cs) (linked job turns trace ds) name below), below))
+    let f = number_of (linked job turns trace cs) in let g = number_of (linked job turns trace ds) in (
+      linked_name job turns trace f c ∙ same ∙ sym (linked_name job turns trace g d),
+      (class_kind_same job turns trace f g c d same (λ name. alike_number (linked job turns trace cs) (linked job turns trace ds) name below), below),
+    )
 
 -- ---- further classes before them
 

@@ -1,5 +1,5 @@
 -- A frame that was born runs the code that it ran.
-use Rattle.std.proofs.Common.{◌≡◌, ◌∙◌, ◌≤◌, ℕ, suc, List, [], ◌∷◌, ◌++◌, length, take, refl, sym, ap, arith}
+use Rattle.std.proofs.Common.{◌≡◌, ◌∙◌, ℕ, suc, List, [], ◌∷◌, ◌++◌, length, take, refl, sym, ap, arith}
 use Rattle.std.proofs.lemmas.List.{take-append-le}
 use Rattle.ti_ids.specs.declared.number.ClassNo.{ClassNo}
 use Rattle.jv_names.specs.Names.{Name}

@@ -1,6 +1,6 @@
 -- The numbers and the names of the JVM Tool Interface 1.2: capabilities by their bits (`jvmtiCapabilities`, those that are offered
 -- here), events by their numbers ("Event Index"), and the capability that an event needs.
-use Rattle.std.specs.Prelude.{ℕ, Bool, ◌==◌, List, [], ◌∷◌, Option, Some, None, codes}
+use Rattle.std.specs.Prelude.{ℕ, Bool, ◌==◌, List, Option, Some, None, codes}
 use Rattle.ti_codes.specs.declared.capability.Capability.{Capability}
 use Rattle.ti_codes.specs.declared.capability.Capability.TheVariants as capabilities
 use Rattle.ti_codes.specs.declared.event.EventKind.{EventKind}

@@ -1,6 +1,6 @@
 -- The state of an agent's environment, as the trace has it: whether it is disposed, its capabilities, its masks and its rule set
 -- (JVM TI, "DisposeEnvironment", "Capability" and "SetEventNotificationMode").
-use Rattle.std.specs.Prelude.{Bool, true, false, not, ◌&&◌, ◌||◌, ◌==◌, List, [], fold, Option, Some, None, if◌then◌else◌}
+use Rattle.std.specs.Prelude.{Bool, true, false, ◌&&◌, ◌||◌, ◌==◌, List, [], fold, Option, Some, None, if◌then◌else◌}
 use Rattle.std.specs.List.{list_any}
 use Rattle.std.specs.Option.{option_map_or}
 use Rattle.ti_ids.specs.declared.number.ThreadNo.{ThreadNo}

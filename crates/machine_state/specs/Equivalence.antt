@@ -1,9 +1,8 @@
 -- When two versions of a method are equivalent (JVM TI, "IsMethodObsolete"): their instructions are the same but for the indices of
 -- constants, the constants are equal, and the exception tables are equal in the same way. That the tables count is this project's own.
-use Rattle.std.specs.Prelude.{ℕ, ℤ, Bool, true, false, ◌&&◌, ◌==◌, List, [], ◌∷◌, map, Option, Some, None, bytes_eq, codes, unwrap_or}
+use Rattle.std.specs.Prelude.{ℕ, Bool, true, false, ◌&&◌, ◌==◌, List, [], ◌∷◌, map, Option, Some, None, bytes_eq, codes, unwrap_or}
 use Rattle.std.specs.Cmp.Lexicographic.{pointwise}
 use Rattle.std.specs.List.{filter_map}
-use Rattle.std.specs.Option.{option_and_then}
 use Rattle.std.specs.Fmt.{signed_decimal}
 use Rattle.class_code.specs.declared.instr.Instr.{Instr}
 use Rattle.class_code.specs.declared.instr.Instr.TheVariants as instr
@@ -14,7 +13,6 @@ use Rattle.class_tree.specs.declared.pool.Const.TheVariants as const
 use Rattle.class_tree.specs.declared.body.Code.{Code}
 use Rattle.class_tree.specs.declared.body.Handler.{Handler}
 use Rattle.class_tree.specs.declared.members.Member.{Member}
-use Rattle.class_tree.specs.Trees.{Tree}
 use Rattle.class_tree.specs.Tree.{entry_at, text_at, class_at, name_type_at, code_of}
 
 -- ---- what an index names: its kind, and the texts and numbers that it comes down to

@@ -1,6 +1,6 @@
 -- What a run is given: class files, agents and limits. The calls of agents are those of the JVM Tool Interface 1.2; rule files and
 -- the rules in them are this project's own.
-use Rattle.std.specs.Prelude.{ℕ, ℤ, Bool, List, [], ◌∷◌, zero, suc, Option, Some, None, slice_get, find, bytes_eq, option_map}
+use Rattle.std.specs.Prelude.{ℕ, ℤ, Bool, List, zero, suc, Option, None, slice_get, find, bytes_eq, option_map}
 use Rattle.ti_ids.specs.declared.number.EnvNo.{EnvNo}
 use Rattle.ti_ids.specs.declared.limits.Limits.{Limits}
 use Rattle.ti_codes.specs.declared.capability.Capability.{Capability}

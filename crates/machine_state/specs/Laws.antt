@@ -1,5 +1,5 @@
 -- The laws of the state: what a frame runs stays as it was.
-use Rattle.std.specs.Prelude.{◌≡◌, ℕ, ◌≤◌, ◌<◌, List, ◌++◌, length, map}
+use Rattle.std.specs.Prelude.{◌≡◌, ◌≤◌, ◌<◌, List, ◌++◌, length, map}
 use Rattle.ti_ids.specs.declared.number.ClassNo.{ClassNo}
 use Rattle.jv_names.specs.Names.{Name}
 use Rattle.machine_state.specs.Jobs.{Job}

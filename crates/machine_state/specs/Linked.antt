@@ -1,6 +1,6 @@
 -- The classes of the machine as linking sees them (JVM specification 5.3 to 5.5 and 6.5): those that the core names, with the versions
 -- that the trace has of them. So resolution, selection and the test of `checkcast` are those of `link_versions`.
-use Rattle.std.specs.Prelude.{ℕ, Bool, ◌==◌, List, [], ◌∷◌, map, find, Option, Some, None, option_map, if◌then◌else◌, bytes_eq, Ok, Err}
+use Rattle.std.specs.Prelude.{ℕ, ◌==◌, List, [], ◌∷◌, find, Option, Some, None, option_map, if◌then◌else◌, Ok, Err}
 use Rattle.std.specs.List.{filter_map}
 use Rattle.std.specs.Option.{option_and_then}
 use Rattle.ti_ids.specs.declared.number.ClassNo.{ClassNo}
@@ -10,9 +10,9 @@ use Rattle.jv_names.specs.DescriptorReading.{kept_type}
 use Rattle.jv_names.specs.DescriptorFlaws.{read_field}
 use Rattle.class_tree.specs.Trees.{Tree}
 use Rattle.classfile_read.specs.ClassReading.{class_of}
-use Rattle.base_set.specs.BaseSet.{BaseClass, base_set, has_name}
+use Rattle.base_set.specs.BaseSet.{base_set, has_name}
 use Rattle.base_set.specs.BaseTrees.{base_tree}
-use Rattle.link_versions.specs.Classes.{Class, Kind, OfFile, number_of}
+use Rattle.link_versions.specs.Classes.{Class, OfFile, number_of}
 use Rattle.link_versions.specs.Changes.{file_class, array_class}
 use Rattle.machine_state.specs.Jobs.{Job}
 use Rattle.machine_state.specs.Core.{CoreClass}

@@ -1,5 +1,5 @@
 -- Obsolete frames (JVM TI, "IsMethodObsolete"): a later version of the class has another method in the place of the frame's.
-use Rattle.std.specs.Prelude.{Bool, false, not, List, [], length, drop, take, Option, Some, None}
+use Rattle.std.specs.Prelude.{Bool, false, not, List, [], length, drop, take, Option, Some}
 use Rattle.std.specs.List.{list_any}
 use Rattle.std.specs.Option.{option_map_or}
 use Rattle.jv_names.specs.Names.{Name}

@@ -1,6 +1,6 @@
 -- Breakpoints, watched fields and suspended threads (JVM TI, "Breakpoint", "Watched Field", "Thread"): they are shared by all
 -- environments, and stay when one is disposed.
-use Rattle.std.specs.Prelude.{ℕ, Bool, true, false, ◌==◌, ◌&&◌, if◌then◌else◌, bytes_eq}
+use Rattle.std.specs.Prelude.{Bool, true, false, ◌==◌, ◌&&◌, if◌then◌else◌, bytes_eq}
 use Rattle.ti_ids.specs.declared.number.ThreadNo.{ThreadNo}
 use Rattle.ti_codes.specs.declared.event.EventKind.{EventKind}
 use Rattle.machine_state.specs.Codes.{same_kind}

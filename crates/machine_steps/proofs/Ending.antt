@@ -1,5 +1,5 @@
 -- The laws of ends and schedules.
-use Rattle.std.proofs.Common.{◌≡◌, ◌∙◌, ◌<◌, ◌≤◌, ◌+◌, ℕ, zero, suc, List, [], ◌∷◌, ◌++◌, Option, Some, None, Bool, true, false, ◌&&◌, cond, length, leb, refl, sym, ap, subst, arith}
+use Rattle.std.proofs.Common.{◌≡◌, ◌<◌, ◌≤◌, ◌+◌, ℕ, zero, suc, List, [], ◌∷◌, Option, Some, None, Bool, true, false, ◌&&◌, cond, leb, refl, sym, ap, subst, arith}
 use Rattle.std.specs.Prelude.{is_some, is_none, IsTrue, IfSome}
 use Rattle.std.proofs.lemmas.Bool.{leb-false}
 use Rattle.ti_ids.specs.declared.actor.Actor.{Actor}
@@ -12,7 +12,7 @@ use Rattle.machine_steps.specs.Settings.{Setting}
 use Rattle.machine_steps.specs.Actors.{is_ready}
 use Rattle.machine_steps.specs.Ends.{end, is_enabled, is_dead}
 use Rattle.machine_steps.specs.Replay.{step, run_from, RunsFrom, opening}
-use Rattle.machine_steps.specs.Picks.{pick, picked_from, next_actor}
+use Rattle.machine_steps.specs.Picks.{pick, picked_from}
 use Rattle.machine_steps.specs.Reports.{report_parts}
 use Rattle.machine_steps.specs.Laws.{NoneAfterEnd, HasStepLeft, PickedRuns, PickedEnds, StatesSchedule}
 use Rattle.machine_steps.proofs.Picking.{Pick, pick_some, pick_enabled}

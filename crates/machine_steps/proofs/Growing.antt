@@ -1,6 +1,6 @@
 -- What only grows stays as it was at each act, and so at each step.
-use Rattle.std.proofs.Common.{◌≡◌, ◌∙◌, ℕ, zero, suc, ◌+◌, ◌-◌, ◌==◌, List, [], ◌∷◌, ◌++◌, map, length, Option, Some, None, Bool, true, false, cond, refl, sym, ap, append_assoc}
-use Rattle.std.specs.Prelude.{fold, slice_get, slice_set, is_some, unwrap_or}
+use Rattle.std.proofs.Common.{◌≡◌, ◌∙◌, ℕ, ◌-◌, ◌==◌, List, [], ◌∷◌, ◌++◌, map, length, Option, Some, None, Bool, true, false, cond, refl, sym, ap, append_assoc}
+use Rattle.std.specs.Prelude.{fold, slice_get, slice_set, unwrap_or}
 use Rattle.std.specs.List.{AllByRecursion}
 use Rattle.std.specs.Option.{option_map_or}
 use Rattle.std.proofs.lemmas.List.{append-nil}
@@ -12,13 +12,12 @@ use Rattle.ti_ids.specs.declared.number.ClassNo.{ClassNo}
 use Rattle.ti_ids.specs.declared.actor.Actor.{Actor}
 use Rattle.jv_names.specs.Names.{Name}
 use Rattle.java_heap.specs.declared.object.Object.{Object}
-use Rattle.java_heap.specs.Heaps.{HeapValue, object_at}
+use Rattle.java_heap.specs.Heaps.{HeapValue}
 use Rattle.java_heap.specs.Changes.{with_changed}
 use Rattle.link_versions.specs.Classes.{with_numbered}
 use Rattle.machine_state.specs.Jobs.{Job}
 use Rattle.machine_state.specs.Core.{Core, CoreClass}
 use Rattle.machine_state.specs.Trace.{Entry, Record}
-use Rattle.machine_state.specs.Acts as acts
 use Rattle.machine_state.specs.Acts.{State, Act, Change, Changes, Notes, Makes, PutsField, PutsElement, PutsSide, PutsBehind, PutsStatic, Enters, Leaves, GoesToWait, Notifies, NotifiesAll, TakesBack, Prints, SetsTop, Pops, Pushes, PushesInit, SetsState, SetsActivity, MakesThread, AddsClass, SetsClass, EntersInitializer, Fails, SetsPhase, Dies, TakesCall, TakesScript, changed, acted}
 use Rattle.machine_steps.specs.Laws.{GoesOn, ComesBefore, IsOfStep, GrowsBy}
 

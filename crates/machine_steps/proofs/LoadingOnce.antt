@@ -1,5 +1,5 @@
 -- Only a class that isn't there is loaded, and none whose load has failed.
-use Rattle.std.proofs.Common.{◌≡◌, ◌∙◌, ℕ, zero, suc, List, [], ◌∷◌, map, length, Option, Some, None, Bool, true, false, cond, refl, sym, ap, subst}
+use Rattle.std.proofs.Common.{◌≡◌, ℕ, zero, suc, List, [], ◌∷◌, map, length, Option, Some, None, Bool, true, false, cond, refl, subst}
 use Rattle.std.specs.Prelude.{is_some, unwrap_or}
 use Rattle.jv_names.specs.Names.{Name}
 use Rattle.ti_ids.specs.declared.number.ClassNo.{ClassNo}
@@ -7,7 +7,7 @@ use Rattle.class_tree.specs.Trees.{Tree}
 use Rattle.link_versions.specs.Classes.{Class, number_of}
 use Rattle.machine_state.specs.Core.{Core, failure_of}
 use Rattle.machine_steps.specs.Settings.{Setting}
-use Rattle.machine_steps.specs.Loading.{Load, Met, Loads, Refuses, Repeats, first_unmet, after_supers, load_of_tree, load_of_given, load_of_failed, load_within, next_load, is_circular, is_crossed, given_tree, supers_of}
+use Rattle.machine_steps.specs.Loading.{Load, Met, Loads, Refuses, Repeats, first_unmet, after_supers, load_of_tree, load_of_given, load_of_failed, load_within, is_circular, is_crossed, given_tree, supers_of}
 use Rattle.machine_steps.specs.Laws.{LoadsOnce, IsNew}
 
 -- a load is of a class that is new

@@ -1,14 +1,13 @@
 -- The laws of one step.
-use Rattle.std.proofs.Common.{◌≡◌, ℕ, ◌+◌, List, [], ◌∷◌, ◌++◌, map, Option, Some, None, Bool, true, false, refl, sym, ap}
+use Rattle.std.proofs.Common.{◌≡◌, ◌+◌, List, Option, Some, None, true, refl}
 use Rattle.std.specs.Prelude.{is_some}
-use Rattle.std.proofs.lemmas.List.{append-nil}
 use Rattle.ti_ids.specs.declared.actor.Actor.{Actor}
-use Rattle.machine_state.specs.Acts.{State, Act, birth_after, stepped}
+use Rattle.machine_state.specs.Acts.{State, Act, birth_after}
 use Rattle.machine_steps.specs.Settings.{Setting}
-use Rattle.machine_steps.specs.Actors.{is_ready, next_acts}
+use Rattle.machine_steps.specs.Actors.{next_acts}
 use Rattle.machine_steps.specs.Replay.{step, step_by}
 use Rattle.machine_steps.specs.Laws.{CountsOne, AddsRecords, OutputGrows, ObjectsStay, ClassesStay, GrowsBy}
-use Rattle.machine_steps.proofs.Growing.{Keeps, keep_itself, acts_keep, Going, going_none, going_acts}
+use Rattle.machine_steps.proofs.Growing.{Keeps, keep_itself, acts_keep, going_none, going_acts}
 
 -- ---- one step, of acts or without any
 

@@ -1,5 +1,5 @@
 -- The steps of the machine itself and of agents, and which actor may make the next step.
-use Rattle.std.specs.Prelude.{ℕ, codes, ◌+◌, Bool, true, false, not, ◌&&◌, nat_le, List, [], ◌∷◌, ◌++◌, map, length, position, Option, Some, None, is_some, if◌then◌else◌}
+use Rattle.std.specs.Prelude.{codes, ◌+◌, Bool, true, false, not, ◌&&◌, nat_le, List, [], ◌∷◌, ◌++◌, map, length, position, Option, Some, None, is_some, if◌then◌else◌}
 use Rattle.std.specs.List.{list_all}
 use Rattle.std.specs.Option.{option_map_or}
 use Rattle.ti_ids.specs.Maybe.{◌>>=◌}

@@ -1,7 +1,6 @@
 -- How a run ends, and which actor may make the next step.
 use Rattle.std.specs.Prelude.{ℕ, ◌+◌, List, [], ◌∷◌, ◌++◌, length, sum_by, Option, Some, None, is_none, Bool, true, false, ◌&&◌, ◌||◌, nat_le, IsTrue, if◌then◌else◌}
 use Rattle.std.specs.List.{list_any}
-use Rattle.ti_ids.specs.declared.number.EnvNo.{EnvNo}
 use Rattle.ti_ids.specs.declared.actor.Actor.{Actor}
 use Rattle.ti_ids.specs.declared.actor.Actor.TheVariants.{Vm, Thread, Agent}
 use Rattle.ti_ids.specs.declared.actor.End.{End}

@@ -1,5 +1,5 @@
 -- The initialization of classes (JVM specification 5.5): how it begins, and each of its later steps.
-use Rattle.std.specs.Prelude.{ℕ, ◌+◌, ◌==◌, nat_le, nat_lt, Bool, true, false, not, ◌&&◌, ◌||◌, List, [], ◌∷◌, ◌++◌, length, flat_map, find, filter, Option, Some, None, unwrap_or, is_some, option_map, codes, slice_get, if◌then◌else◌}
+use Rattle.std.specs.Prelude.{ℕ, ◌+◌, ◌==◌, nat_le, Bool, true, false, not, ◌&&◌, List, [], ◌∷◌, ◌++◌, length, flat_map, find, filter, Option, Some, None, option_map, codes, if◌then◌else◌}
 use Rattle.std.specs.List.{list_any}
 use Rattle.std.specs.Option.{option_and_then, option_map_or}
 use Rattle.ti_ids.specs.declared.number.ThreadNo.{ThreadNo}
@@ -23,7 +23,7 @@ use Rattle.java_heap.specs.Objects.{fresh}
 use Rattle.thread_frames.specs.ThreadStack.{most_frames}
 use Rattle.link_versions.specs.declared.class.InitState.{InitState}
 use Rattle.link_versions.specs.declared.class.InitState.TheVariants as states
-use Rattle.link_versions.specs.Classes.{Class, class_at as class_numbered, first_version, version_at, newest_version, is_interface}
+use Rattle.link_versions.specs.Classes.{Class, class_at as class_numbered, version_at, newest_version, is_interface}
 use Rattle.link_versions.specs.Members.{declared_method, method_has}
 use Rattle.machine_state.specs.Core.{Core, MethodFrame, frames_at, class_of_number}
 use Rattle.machine_state.specs.Acts.{State, Act, Changes, SetsClass, PutsStatic, Pops, Pushes, PushesInit, EntersInitializer}

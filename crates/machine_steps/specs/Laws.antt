@@ -1,5 +1,5 @@
 -- The laws of the steps: what holds of every setting, state and schedule.
-use Rattle.std.specs.Prelude.{◌≡◌, ℕ, ◌+◌, ◌≤◌, ◌<◌, ◌^◌, List, [], ◌∷◌, ◌++◌, length, map, Option, Some, None, true, false, IsTrue}
+use Rattle.std.specs.Prelude.{◌≡◌, ◌+◌, ◌<◌, ◌^◌, List, ◌++◌, length, map, Option, Some, None, true, false}
 use Rattle.std.specs.List.{AllByRecursion}
 use Rattle.ti_ids.specs.declared.actor.Actor.{Actor}
 use Rattle.ti_ids.specs.declared.actor.End.{End}

@@ -1,5 +1,5 @@
 -- The loading of classes (JVM specification 5.3): what a need to load a class does next. Each step loads one class.
-use Rattle.std.specs.Prelude.{ℕ, zero, suc, ◌+◌, Bool, true, false, not, ◌&&◌, ◌||◌, List, [], ◌∷◌, ◌++◌, map, length, flat_map, find, Option, Some, None, unwrap_or, is_some, option_map, bytes_eq, codes, if◌then◌else◌}
+use Rattle.std.specs.Prelude.{ℕ, zero, suc, ◌+◌, Bool, true, false, not, ◌&&◌, ◌||◌, List, [], ◌∷◌, ◌++◌, map, length, flat_map, Option, Some, None, unwrap_or, is_some, bytes_eq, codes, if◌then◌else◌}
 use Rattle.std.specs.List.{list_any, filter_map}
 use Rattle.std.specs.Option.{option_and_then, option_map_or, option_or}
 use Rattle.std.specs.Cmp.Lexicographic.{pointwise}
@@ -14,7 +14,7 @@ use Rattle.link_versions.specs.declared.class.InitState.TheVariants as states
 use Rattle.link_versions.specs.Classes.{Class, number_of}
 use Rattle.machine_state.specs.Jobs.{Job, bytes_of}
 use Rattle.machine_state.specs.Core.{Core, failure_of}
-use Rattle.machine_state.specs.Trace.{Trace, Turned, Loaded, LoadFailed, ClassLoad}
+use Rattle.machine_state.specs.Trace.{Turned, Loaded, LoadFailed, ClassLoad}
 use Rattle.machine_state.specs.Chains.{Transformer, chain}
 use Rattle.machine_state.specs.Versions.{Turns, turned, folded}
 use Rattle.machine_state.specs.Linked.{tree_of, base_tree_of}

@@ -1,18 +1,16 @@
 -- The steps of a thread: the first rule that fits gives it.
-use Rattle.std.specs.Prelude.{ℕ, ◌==◌, Bool, true, false, not, ◌&&◌, List, [], ◌∷◌, ◌++◌, fold, drop, length, Option, Some, None, is_none, option_map, unwrap_or, if◌then◌else◌}
-use Rattle.std.specs.Option.{option_map_or, option_and_then}
+use Rattle.std.specs.Prelude.{ℕ, Bool, true, false, not, ◌&&◌, List, [], ◌∷◌, ◌++◌, fold, Option, Some, None, is_none, option_map, unwrap_or, if◌then◌else◌}
+use Rattle.std.specs.Option.{option_map_or}
 use Rattle.ti_ids.specs.Maybe.{◌>>=◌}
 use Rattle.ti_ids.specs.declared.number.ThreadNo.{ThreadNo}
 use Rattle.ti_ids.specs.declared.number.ObjNo.{ObjNo}
-use Rattle.ti_ids.specs.declared.number.ClassNo.{ClassNo}
 use Rattle.ti_ids.specs.declared.actor.Actor.{Actor}
 use Rattle.ti_ids.specs.declared.actor.Actor.TheVariants as actors
-use Rattle.ti_ids.specs.declared.state.Announced.TheVariants.{No, Yes}
+use Rattle.ti_ids.specs.declared.state.Announced.TheVariants.{No}
 use Rattle.ti_ids.specs.declared.state.ThreadState.{ThreadState}
 use Rattle.ti_ids.specs.declared.state.ThreadState.TheVariants.{Unbegun, Entering, Running, Ended}
 use Rattle.ti_codes.specs.declared.phase.Phase.{Phase}
 use Rattle.ti_codes.specs.declared.phase.Phase.TheVariants as phases
-use Rattle.jv_names.specs.Names.{Name}
 use Rattle.monitor_table.specs.Monitors.{has_wait}
 use Rattle.thread_frames.specs.Operands.{without_top}
 use Rattle.thread_frames.specs.declared.frame.StackEntry.TheVariants.{Java, Init}

@@ -1,6 +1,6 @@
 -- How a thread throws (JVM specification 2.10), and what becomes of an instruction's outcome.
-use Rattle.std.specs.Prelude.{ℕ, Bool, true, false, List, [], ◌∷◌, ◌++◌, Option, Some, None, unwrap_or, option_map, codes, if◌then◌else◌}
-use Rattle.std.specs.Option.{option_and_then, option_map_or}
+use Rattle.std.specs.Prelude.{List, [], ◌∷◌, ◌++◌, Option, Some, None, unwrap_or, codes, if◌then◌else◌}
+use Rattle.std.specs.Option.{option_map_or}
 use Rattle.ti_ids.specs.declared.number.ThreadNo.{ThreadNo}
 use Rattle.ti_ids.specs.declared.number.ObjNo.{ObjNo}
 use Rattle.ti_ids.specs.declared.number.ClassNo.{ClassNo}
@@ -11,7 +11,7 @@ use Rattle.java_heap.specs.declared.object.Content.TheVariants.{Fields}
 use Rattle.thread_frames.specs.declared.frame.StackEntry.TheVariants.{Java, Init}
 use Rattle.link_versions.specs.Classes.{Class, class_at, number_of}
 use Rattle.link_versions.specs.Members.{method_name, method_desc}
-use Rattle.machine_state.specs.Core.{Core, MethodFrame, StackFrame, Activity, Throwing, frames_at}
+use Rattle.machine_state.specs.Core.{Core, MethodFrame, StackFrame, Throwing, frames_at}
 use Rattle.machine_state.specs.Trace.{MethodName, Place, Exception}
 use Rattle.machine_state.specs.Acts.{Act, Changes, SetsActivity, raises, core_after}
 use Rattle.instruction_effect.specs.Outcomes.{has_room, makes_announced}
