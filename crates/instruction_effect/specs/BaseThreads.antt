@@ -17,7 +17,7 @@ use Rattle.machine_state.specs.Acts.{Act, Changes, MakesThread, SetsActivity}
 use Rattle.instruction_effect.specs.Outcomes.{Site, Outcome, Goes, misfit}
 use Rattle.instruction_effect.specs.Arguments.{takes_arguments}
 use Rattle.instruction_effect.specs.Invoking.{unselected, calls}
-use Rattle.instruction_effect.specs.BaseForms.{BaseCall, done_by, gives_made, fails, is_full}
+use Rattle.instruction_effect.specs.BaseForms.{BaseCall, done_by, gives_made, fails, is_full, arguments_taken}
 
 -- ---- `start`
 
@@ -74,9 +74,11 @@ run_at site o = run_of site.classes site.core.heap (length site.core.heap.object
 abbrev pub calls_run : Site → List Act → List Act → ObjNo → MethodNo → Outcome
 calls_run site before taking o m = calls site (record { before = before; taking = taking; method = m; arguments = value.Ref (Some o) ∷ [] })
 
+-- Where there is nothing to run the method was performed, and has taken its arguments. A run whose frame is refused leaves them, as every
+-- call does.
 abbrev pub runs_by : BaseCall → Run → Outcome
 runs_by c Nothing = done_by c []
-runs_by c (Lacks fault) = unselected c.before fault
+runs_by c (Lacks fault) = unselected (arguments_taken c) fault
 runs_by c (Runs o m) = calls_run c.site c.before (takes_arguments c.site c.arguments) o m
 
 -- `run` of Thread: the run of the target

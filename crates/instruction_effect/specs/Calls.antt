@@ -18,8 +18,8 @@ use Rattle.link_versions.specs.Members.{declared_method, method_has}
 use Rattle.link_versions.specs.Orders.{superclasses}
 use Rattle.link_versions.specs.Subtypes.{is_subclass}
 use Rattle.link_versions.specs.declared.fault.LinkFault.{LinkFault}
-use Rattle.link_versions.specs.Resolution.{from_object, unless_abstract, concrete_ones, sole_of, sole_or_fault, selected}
-use Rattle.instruction_effect.specs.Outcomes.{Site, Outcome, misfit, or_misfit, when_ready}
+use Rattle.link_versions.specs.Resolution.{from_object, concrete_ones, sole_of, sole_or_fault, selected}
+use Rattle.instruction_effect.specs.Outcomes.{Site, Outcome, misfit, or_misfit, when_linked, when_ready}
 use Rattle.instruction_effect.specs.Operands.{incompatible, unless_null}
 use Rattle.instruction_effect.specs.Arguments.{static_kinds, instance_kinds, when_arguments, takes_arguments}
 use Rattle.instruction_effect.specs.Invoking.{abstract_method, no_method, unselected, calls}
@@ -31,11 +31,15 @@ use Rattle.instruction_effect.specs.MethodResolution.{Resolved, Reference, resol
 
 -- A base method is performed, and the frame of another one is pushed. An abstract one can't be invoked, also where it is static or
 -- private.
-abbrev pub invokes : Resolved → MethodNo → List Value → Outcome
-invokes x m values =
+abbrev pub invokes_linked : Resolved → MethodNo → List Value → Outcome
+invokes_linked x m values =
     if method_has x.site.classes flags.Abstract m then abstract_method x.before
     else if is_base_method x.site.classes m then base_outcome x.site x.before m values
     else calls x.site (record { before = x.before; taking = takes_arguments x.site values; method = m; arguments = values })
+
+-- the class that declares it must be linked
+abbrev pub invokes : Resolved → MethodNo → List Value → Outcome
+invokes x m values = when_linked x.site m.class (invokes_linked x m values)
 
 -- the method that a selection selects
 abbrev pub invokes_selected : Resolved → List Value → Result MethodNo LinkFault → Outcome
@@ -118,7 +122,7 @@ declared_from classes n name desc =
 
 abbrev pub selected_from : List Class → Reference → ClassNo → Result MethodNo LinkFault
 selected_from classes r n = elim (declared_from classes n r.name r.desc) [
-  | Some m ↦ unless_abstract classes m
+  | Some m ↦ Ok m
   | None ↦ sole_or_fault (sole_of (concrete_ones classes n r.name r.desc))
 ]
 

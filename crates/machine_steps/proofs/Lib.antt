@@ -3,3 +3,4 @@ pub mod Stepping
 pub mod Picking
 pub mod Ending
 pub mod LoadingOnce
+pub mod StayingCode

@@ -7,7 +7,9 @@ use Rattle.jv_names.specs.Names.{Name}
 use Rattle.link_versions.specs.Classes.{Class, number_of}
 use Rattle.report_text.specs.Named.{AllNamed}
 use Rattle.report_text.specs.Stated.{stated}
-use Rattle.machine_state.specs.Core.{Core, failure_of}
+use Rattle.machine_state.specs.Core.{Core, MethodFrame, failure_of}
+use Rattle.machine_state.specs.FrameCode.{code}
+use Rattle.machine_state.specs.Laws.{IsBorn}
 use Rattle.machine_state.specs.Trace.{Entry}
 use Rattle.machine_state.specs.Acts.{State}
 use Rattle.machine_steps.specs.Settings.{Setting}
@@ -79,6 +81,13 @@ pub record ComesBefore (before after : List Name) : Type 0 where
 
 abbrev pub ClassesStay : Type 0
 ClassesStay = (setting : Setting) (s : State) (actor : Actor) → ComesBefore (map (λ c. c.name) s.core.classes) (map (λ c. c.name) (step setting s actor).core.classes)
+
+-- ---- frames
+
+-- A step changes the code of no frame that was born before it.
+abbrev pub CodeStays : Type 0
+CodeStays = (setting : Setting) (s : State) (actor : Actor) (f : MethodFrame) → IsBorn s.trace s.core.classes f
+    → code setting.job setting.turns (step setting s actor).trace (step setting s actor).core.classes f ≡ code setting.job setting.turns s.trace s.core.classes f
 
 -- ---- schedules
 

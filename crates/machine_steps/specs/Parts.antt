@@ -11,6 +11,7 @@ use Rattle.ti_ids.specs.declared.state.ThreadState.{ThreadState}
 use Rattle.ti_codes.specs.declared.phase.Phase.{Phase}
 use Rattle.ti_codes.specs.declared.capability.Capability.{Capability}
 use Rattle.ti_codes.specs.declared.event.EventKind.{EventKind}
+use Rattle.ti_ids.specs.declared.limits.Limits.{Limits}
 use Rattle.jv_names.specs.Names.{Name}
 use Rattle.class_code.specs.declared.instr.Instr.{Instr}
 use Rattle.java_heap.specs.Heaps.{HeapValue}
@@ -86,6 +87,8 @@ pub record Parts : Type 0 where
   pub schedule : List Run
   pub steps : ℕ
   -- of the job
+  pub main : Name
+  pub limits : Limits
   pub files : List File
   pub donors : List (List ℕ)
   pub agents : List jobs.Agent

@@ -129,6 +129,8 @@ module _ (w : Setting) (s : State) where
     pub watches : (field : FieldNo) (kind : EventKind) → p.watches field kind ≡ is_watched s.trace (name_of_field p.classes field) kind
     pub suspended : (t : ThreadNo) → p.suspended t ≡ is_suspended s.trace t
     pub steps : p.steps ≡ s.steps
+    pub main : p.main ≡ w.job.main
+    pub limits : p.limits ≡ w.job.limits
     pub files : p.files ≡ w.job.files
     pub donors : p.donors ≡ w.job.donors
     pub agents : p.agents ≡ w.job.agents

@@ -1,5 +1,5 @@
 -- The steps of a thread: the first rule that fits gives it.
-use Rattle.std.specs.Prelude.{ℕ, Bool, true, false, not, ◌&&◌, List, [], ◌∷◌, ◌++◌, fold, Option, Some, None, is_none, option_map, unwrap_or, if◌then◌else◌}
+use Rattle.std.specs.Prelude.{◌≡◌, ℕ, Bool, true, false, not, ◌&&◌, List, [], ◌∷◌, ◌++◌, fold, Option, Some, None, is_none, option_map, unwrap_or, if◌then◌else◌}
 use Rattle.std.specs.Option.{option_map_or}
 use Rattle.ti_ids.specs.Maybe.{◌>>=◌}
 use Rattle.ti_ids.specs.declared.number.ThreadNo.{ThreadNo}
@@ -92,13 +92,17 @@ joins setting s classes t thread of =
 -- ---- an instruction
 
 -- the offset behind the instruction of a frame
-abbrev pub behind : Setting → State → MethodFrame → Option ℕ
-behind setting s f = option_map (λ list. unwrap_or (following list f.pc) 65535) (code setting.job setting.turns s.trace s.core.classes f)
+abbrev pub behind_instruction : Setting → State → MethodFrame → Option ℕ
+behind_instruction setting s f = option_map (λ list. unwrap_or (following list f.pc) 65535) (code setting.job setting.turns s.trace s.core.classes f)
 
 -- where no instruction begins at the pc, that is a misfit
 abbrev pub outcome_of : Setting → State → Option Stop → Outcome
 outcome_of setting s None = misfit
-outcome_of setting s (Some stop) = effect (behind setting s) stop.site stop.code stop.instr
+outcome_of setting s (Some stop) = effect (behind_instruction setting s) stop.site stop.code stop.instr
+
+-- what is performed at a frame's pc is a misfit: it throws InternalError, which nothing else does
+abbrev pub IsMisfit : Setting → State → List Class → ThreadNo → Thread → MethodFrame → Type 0
+IsMisfit setting s classes t thread f = outcome_of setting s (stop_of setting s classes t thread f) ≡ misfit
 
 -- the state behind acts that announce, within the step
 abbrev pub announced_state : Setting → State → ThreadNo → List Act → State
@@ -118,20 +122,20 @@ abbrev pub ends_thread : ThreadNo → List Act
 ends_thread t = Changes (SetsState t Ended) ∷ raises (ThreadEnd t) ∷ []
 
 -- one that hasn't entered its method does so, with its needs first; one that has ends
-abbrev pub enters_or_ends : Setting → State → List Class → ThreadNo → Thread → ThreadState → Option (List Act)
-enters_or_ends setting s classes t thread Entering = resolved setting s classes t (entry_outcome s.core classes t thread setting.job.main)
-enters_or_ends setting s classes t thread Running = Some (ends_thread t)
-enters_or_ends setting s classes t thread Unbegun = None
-enters_or_ends setting s classes t thread Ended = None
+abbrev pub enters_or_finishes : Setting → State → List Class → ThreadNo → Thread → ThreadState → Option (List Act)
+enters_or_finishes setting s classes t thread Entering = resolved setting s classes t (entry_outcome s.core classes t thread setting.job.main)
+enters_or_finishes setting s classes t thread Running = Some (ends_thread t)
+enters_or_finishes setting s classes t thread Unbegun = None
+enters_or_finishes setting s classes t thread Ended = None
 
 -- ---- the rules by the top frame
 
 abbrev pub goes_on : Setting → State → List Class → ThreadNo → Thread → List StackFrame → Option (List Act)
 goes_on setting s classes t thread (Init n ∷ below) = progress_step s classes t n
 goes_on setting s classes t thread (Java f ∷ below) = executes setting s classes t thread f
-goes_on setting s classes t thread [] = enters_or_ends setting s classes t thread thread.state
+goes_on setting s classes t thread [] = enters_or_finishes setting s classes t thread thread.state
 
--- nobody else owns the monitor that the thread wants
+-- nobody owns the monitor that the thread wants
 abbrev pub is_to_have : Core → ThreadNo → ObjNo → Bool
 is_to_have core t object = is_none (monitor_at core object).owner
 

@@ -1,5 +1,6 @@
 use Rattle.machine_steps.proofs.Stepping.{counts_one, adds_records, output_grows, objects_stay, classes_stay}
 use Rattle.machine_steps.proofs.LoadingOnce.{loads_once}
+use Rattle.machine_steps.proofs.StayingCode.{code_stays}
 use Rattle.machine_steps.proofs.laws.step_laws.Goals as goal
 
 pub returns-clause-counts : goal.returns-clause-counts
@@ -19,3 +20,6 @@ returns-clause-classes c = classes_stay
 
 pub returns-clause-loads : goal.returns-clause-loads
 returns-clause-loads c = loads_once
+
+pub returns-clause-code : goal.returns-clause-code
+returns-clause-code c = code_stays
