@@ -18,12 +18,12 @@ use Rattle.jv_names.specs.Names.{Name}
 use Rattle.java_heap.specs.declared.object.Object.{Object}
 use Rattle.java_heap.specs.Changes.{with_field, with_elem, with_side, with_more}
 use Rattle.monitor_table.specs.Monitors.{entered, left, gone_to_wait, with_one_notified, with_all_notified, taken_back}
-use Rattle.thread_frames.specs.ThreadStack.{pushed, popped, replaced}
+use Rattle.thread_frames.specs.ThreadStack.{pushed, popped}
 use Rattle.thread_frames.specs.declared.frame.StackEntry.TheVariants.{Java, Init}
 use Rattle.link_versions.specs.declared.class.InitState.{InitState}
 use Rattle.machine_state.specs.Jobs as jobs
 use Rattle.machine_state.specs.Jobs.{Job, Call, SetTag, GetTag, AgentKind, Native, Callback, agent_at}
-use Rattle.machine_state.specs.Core.{Core, MethodFrame, Activity, Free, Thread, Pending, with_thread, with_frames, with_class, with_monitor, with_queue, same_field}
+use Rattle.machine_state.specs.Core.{Core, MethodFrame, StackFrame, Activity, Free, Thread, Pending, with_thread, with_frames, with_class, with_monitor, with_queue, same_field}
 use Rattle.machine_state.specs.Trace.{Event, Record, Raised, Turned, Trace}
 use Rattle.machine_state.specs.Codes.{same_kind}
 use Rattle.machine_state.specs.Events as events
@@ -54,7 +54,7 @@ pub data Change : Type 0 where
   NotifiesAll : ObjNo → Change
   TakesBack : ObjNo → ThreadNo → Change
   Prints : List ℕ → Change
-  -- the frames of a thread: one in the place of the top, none in its place, one more. A frame that is pushed gets its birth.
+  -- the frames of a thread: the top goes on as this frame stands, is taken away, gets one above it. A frame that is pushed gets its birth.
   SetsTop : ThreadNo → MethodFrame → Change
   Pops : ThreadNo → Change
   Pushes : ThreadNo → MethodFrame → Change
@@ -82,6 +82,13 @@ statics_with field v core = record core { statics = record { field = field; valu
 abbrev pub new_thread : ObjNo → Thread
 new_thread object = record { object = object; state = Unbegun; activity = Free; frames = [] }
 
+-- A frame goes on: it gets the pc, the local variables, the operand stack and what was announced of this one. Its method and what it is
+-- pinned to stay.
+abbrev pub going_on : MethodFrame → List StackFrame → List StackFrame
+going_on f [] = []
+going_on f (Java g ∷ below) = Java (record g { pc = f.pc; locals = f.locals; stack = f.stack; announced = f.announced }) ∷ below
+going_on f (Init class ∷ below) = Init class ∷ below
+
 -- a frame that is pushed with this birth
 abbrev pub born_at : ℕ → MethodFrame → MethodFrame
 born_at birth frame = record frame { pin = record { birth = birth; monitor = frame.pin.monitor } }
@@ -108,7 +115,7 @@ changed birth (Notifies object) core = with_monitor with_one_notified object cor
 changed birth (NotifiesAll object) core = with_monitor with_all_notified object core
 changed birth (TakesBack object t) core = with_monitor (taken_back t) object core
 changed birth (Prints bytes) core = record core { output = core.output ++ bytes }
-changed birth (SetsTop t frame) core = with_frames (replaced frame) t core
+changed birth (SetsTop t frame) core = with_frames (going_on frame) t core
 changed birth (Pops t) core = with_frames popped t core
 changed birth (Pushes t frame) core = with_frames (pushed (Java (born_at birth frame))) t core
 changed birth (PushesInit t class) core = with_frames (pushed (Init class)) t core

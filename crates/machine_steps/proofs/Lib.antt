@@ -4,3 +4,4 @@ pub mod Picking
 pub mod Ending
 pub mod LoadingOnce
 pub mod StayingCode
+pub mod Births

@@ -1,16 +1,22 @@
--- A step changes the code of no frame that was born before it.
-use Rattle.std.proofs.Common.{◌≡◌, ◌∙◌, ℕ, List, [], ◌∷◌, ◌++◌, map, refl, sym, ap}
+-- A step changes the code of no frame that lives before and after it.
+use Rattle.std.proofs.Common.{◌≡◌, ◌≤◌, ℕ, zero, suc, List, [], ◌∷◌, ◌++◌, length, Some, refl, ap, subst}
+use Rattle.std.specs.Prelude.{slice_get}
+use Rattle.std.specs.List.{AllByRecursion}
+use Rattle.std.specs.Option.{option_map_or}
 use Rattle.ti_ids.specs.declared.actor.Actor.{Actor}
 use Rattle.jv_names.specs.Names.{Name}
-use Rattle.machine_state.specs.Core.{CoreClass, MethodFrame}
+use Rattle.machine_state.specs.Core.{CoreClass, MethodFrame, StackFrame, Thread, frames_at}
+use Rattle.machine_state.specs.Jobs.{counted}
+use Rattle.thread_frames.specs.declared.frame.StackEntry.TheVariants.{Java}
 use Rattle.machine_state.specs.FrameCode.{code}
 use Rattle.machine_state.specs.Laws.{names_of, IsBorn}
 use Rattle.machine_state.specs.Acts.{State}
 use Rattle.machine_state.proofs.KeepingCode.{keeps_code}
 use Rattle.machine_steps.specs.Settings.{Setting}
-use Rattle.machine_steps.specs.Replay.{step}
-use Rattle.machine_steps.specs.Laws.{CodeStays}
+use Rattle.machine_steps.specs.Replay.{step, state}
+use Rattle.machine_steps.specs.Laws.{CodeStays, IsOld, AreOld}
 use Rattle.machine_steps.proofs.Stepping.{adds_records, classes_stay}
+use Rattle.machine_steps.proofs.Births.{frames_are_born}
 
 -- classes whose names are these and those are some of the ones, and some of the others
 record Split (new old : List Name) (classes : List CoreClass) : Type 0 where
@@ -26,9 +32,32 @@ split (n ∷ new) old (c ∷ classes) e =
     let more = split new old classes (let rest : names_of classes ≡ new ++ old = cc in rest) in
     record { first = c ∷ more.first; rest = more.rest; whole = ap (λ (l : List CoreClass). c ∷ l) more.whole; named = more.named }
 
-pub code_stays : CodeStays
-code_stays setting s actor f born =
+born_stays : (setting : Setting) (s : State) (actor : Actor) (f : MethodFrame) → IsBorn s.trace s.core.classes f
+    → code setting.job setting.turns (step setting s actor).trace (step setting s actor).core.classes f ≡ code setting.job setting.turns s.trace s.core.classes f
+born_stays setting s actor f born =
     let grown = adds_records setting s actor in let named = classes_stay setting s actor in
     let after = step setting s actor in
     let parts = split named.new (names_of s.core.classes) after.core.classes named.grown in
     rw (grown.grown, parts.whole) (keeps_code setting.job setting.turns s.trace grown.more s.core.classes parts.first parts.rest f born parts.named)
+
+-- ---- the frames that a thread has were born
+
+frame_old : (n : ℕ) (frames : List StackFrame) (place : ℕ) (f : MethodFrame) → AllByRecursion (IsOld n) frames → slice_get frames place ≡ Some (Java f) → f.pin.birth ≤ n
+frame_old n [] place f h e = absurd cc
+frame_old n (g ∷ frames) zero f h e = let same : g ≡ Java f = cc in subst (IsOld n) same h.0
+frame_old n (g ∷ frames) (suc place) f h e = frame_old n frames place f h.1 e
+
+thread_old : (n : ℕ) (threads : List Thread) (place : ℕ) → AreOld n threads → AllByRecursion (IsOld n) (option_map_or (λ t. t.frames) (slice_get threads place) [])
+thread_old n [] place h = tt
+thread_old n (t ∷ threads) zero h = h.0
+thread_old n (t ∷ threads) (suc place) h = thread_old n threads place h.1
+
+number_old : (n : ℕ) (threads : List Thread) (number : ℕ) → AreOld n threads → AllByRecursion (IsOld n) (option_map_or (λ t. t.frames) (counted threads number) [])
+number_old n threads zero h = tt
+number_old n threads (suc place) h = thread_old n threads place h
+
+pub code_stays : CodeStays
+code_stays setting schedule actor t place f at class method =
+    let s = state setting schedule in
+    let old = number_old (length s.trace) s.core.threads t.0 (frames_are_born setting schedule) in
+    born_stays setting s actor f (record { birth = frame_old (length s.trace) (frames_at s.core t) place f old at; class = class; method = method })

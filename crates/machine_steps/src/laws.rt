@@ -1,4 +1,4 @@
-ghost use Rattle.machine_steps.specs.Laws.{NoneAfterEnd, HasStepLeft, CountsOne, AddsRecords, OutputGrows, ObjectsStay, ClassesStay, LoadsOnce, CodeStays, PickedRuns, PickedEnds, StatesSchedule};
+ghost use Rattle.machine_steps.specs.Laws.{NoneAfterEnd, HasStepLeft, CountsOne, AddsRecords, OutputGrows, ObjectsStay, ClassesStay, LoadsOnce, FramesAreBorn, CodeStays, PickedRuns, PickedEnds, StatesSchedule};
 
 /// Does nothing, and is there for its contract: the laws of the steps, whatever the job and its agents do.
 pub fn step_laws()
@@ -20,7 +20,10 @@ pub fn step_laws()
     // Only a class that isn't there is loaded, and none whose load has failed.
     ensures loads { LoadsOnce }
 
-    // A step changes the code of no frame that was born before it.
+    // After every schedule no frame is born later than now.
+    ensures born { FramesAreBorn }
+
+    // After every schedule a step changes the code of no frame that a thread has, of classes that are there.
     ensures code { CodeStays }
 {}
 

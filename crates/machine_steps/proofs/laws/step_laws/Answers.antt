@@ -1,5 +1,6 @@
 use Rattle.machine_steps.proofs.Stepping.{counts_one, adds_records, output_grows, objects_stay, classes_stay}
 use Rattle.machine_steps.proofs.LoadingOnce.{loads_once}
+use Rattle.machine_steps.proofs.Births.{frames_are_born}
 use Rattle.machine_steps.proofs.StayingCode.{code_stays}
 use Rattle.machine_steps.proofs.laws.step_laws.Goals as goal
 
@@ -23,3 +24,6 @@ returns-clause-loads c = loads_once
 
 pub returns-clause-code : goal.returns-clause-code
 returns-clause-code c = code_stays
+
+pub returns-clause-born : goal.returns-clause-born
+returns-clause-born c = frames_are_born
