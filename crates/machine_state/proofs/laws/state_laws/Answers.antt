@@ -1,5 +1,12 @@
 use Rattle.machine_state.proofs.KeepingCode.{keeps_code}
+use Rattle.machine_state.proofs.LogLaws.{tags_stay, logs_grow}
 use Rattle.machine_state.proofs.laws.state_laws.Goals as goal
 
-pub returns : goal.returns
-returns c = record { code = keeps_code }
+pub returns-clause-code : goal.returns-clause-code
+returns-clause-code c = keeps_code
+
+pub returns-clause-tags : goal.returns-clause-tags
+returns-clause-tags c = tags_stay
+
+pub returns-clause-logs : goal.returns-clause-logs
+returns-clause-logs c = logs_grow
