@@ -15,4 +15,5 @@ pub mod Places
 pub mod Acts
 pub mod Equivalence
 pub mod Obsolete
+pub mod Statuses
 pub mod Laws
