@@ -10,7 +10,7 @@ use Rattle.java_heap.specs.declared.object.Content.{Content}
 use Rattle.java_heap.specs.Heaps.{next_number}
 use Rattle.bytecode_local.specs.Changes.{exchange}
 use Rattle.machine_state.specs.Acts.{Act}
-use Rattle.instruction_effect.specs.Outcomes.{Site, Outcome, Throws, Fills, goes, has_room, makes_announced}
+use Rattle.instruction_effect.specs.Outcomes.{Site, Outcome, Throws, Fills, goes, heap_has_room, makes_announced}
 use Rattle.instruction_effect.specs.Objects.{owns}
 use Rattle.instruction_effect.specs.Arguments.{takes_arguments}
 
@@ -51,7 +51,7 @@ is_full c = Fills (arguments_taken c)
 -- It makes an object, announced by VMObjectAlloc, and gives it.
 abbrev pub makes : BaseCall → ClassNo → Content → Name → Outcome
 makes c class content name =
-    if has_room c.site.core.heap content then gives_made c (makes_announced c.site.t c.site.core.heap class content name) (next_number c.site.core.heap)
+    if heap_has_room c.site.core.heap content then gives_made c (makes_announced c.site.t c.site.core.heap class content name) (next_number c.site.core.heap)
     else is_full c
 
 -- Only the owner of an object's monitor may do it (the language, 17.2).

@@ -22,7 +22,7 @@ use Rattle.link_versions.specs.Subtypes.{type_of}
 use Rattle.bytecode_local.specs.Kinds.{int_at}
 use Rattle.machine_state.specs.Linked.{array_type}
 use Rattle.machine_state.specs.Acts.{Act, Changes, Makes, PutsElement, AddsClass}
-use Rattle.instruction_effect.specs.Outcomes.{Site, Outcome, Throws, Fills, misfit, or_misfit, when_room, next_class, has_room}
+use Rattle.instruction_effect.specs.Outcomes.{Site, Outcome, Throws, Fills, misfit, or_misfit, when_room, next_class, heap_has_room}
 use Rattle.instruction_effect.specs.Operands.{kind_of_desc, zero_of, gives_object, classes_with, when_there}
 
 -- ---- names of array classes: descriptors (section 4.4.1)
@@ -86,7 +86,7 @@ with_array_class name p = record p { classes = classes_with p.classes name; acts
 -- an object is made, or refused
 abbrev pub with_object : Object → Progress → Progress
 with_object object p =
-    if has_room p.heap object.content
+    if heap_has_room p.heap object.content
     then record p { heap = record p.heap { objects = p.heap.objects ++ object ∷ [] }; acts = p.acts ++ Changes (Makes object) ∷ [] }
     else record p { full = true }
 

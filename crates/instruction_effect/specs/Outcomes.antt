@@ -117,8 +117,8 @@ when_loaded site name so = elim (number_of site.classes name) [
 -- ---- objects
 
 -- whether the heap has room for one more object with this content
-abbrev pub has_room : HeapValue → Content → Bool
-has_room heap content = nat_le (words_taken heap + words_of content) heap.limit
+abbrev pub heap_has_room : HeapValue → Content → Bool
+heap_has_room heap content = nat_le (words_taken heap + words_of content) heap.limit
 
 -- the acts that make an object that is announced by VMObjectAlloc, as all are but those of `new` and of the array instructions
 abbrev pub makes_announced : ThreadNo → HeapValue → ClassNo → Content → Name → List Act
@@ -127,4 +127,4 @@ makes_announced t heap class content name =
 
 -- After these acts an object is made where there is room, and what comes then goes by all acts and its number.
 abbrev pub when_room : HeapValue → List Act → List Act → Content → (List Act → ObjNo → Outcome) → Outcome
-when_room heap before making content so = if has_room heap content then so (before ++ making) (next_number heap) else Fills before
+when_room heap before making content so = if heap_has_room heap content then so (before ++ making) (next_number heap) else Fills before

@@ -13,8 +13,8 @@ same_method a b = bytes_eq a.class b.class && bytes_eq a.name b.name && bytes_eq
 abbrev pub same_place : Place → Place → Bool
 same_place a b = same_method a.method b.method && a.pc == b.pc
 
-abbrev pub same_field : FieldName → FieldName → Bool
-same_field a b = bytes_eq a.class b.class && bytes_eq a.name b.name && bytes_eq a.desc b.desc
+abbrev pub same_field_name : FieldName → FieldName → Bool
+same_field_name a b = bytes_eq a.class b.class && bytes_eq a.name b.name && bytes_eq a.desc b.desc
 
 -- ---- breakpoints: a version of its class clears a breakpoint
 
@@ -32,7 +32,7 @@ has_breakpoint trace place = after_all (break_after place) false trace
 -- ---- watches, each for FieldAccess or for FieldModification
 
 abbrev pub watch_after : FieldName → EventKind → Bool → Record → Bool
-watch_after field kind is (WatchSet of what on) = if same_field of field && same_kind what kind then on else is
+watch_after field kind is (WatchSet of what on) = if same_field_name of field && same_kind what kind then on else is
 watch_after field kind is _ = is
 
 abbrev pub is_watched : Trace → FieldName → EventKind → Bool

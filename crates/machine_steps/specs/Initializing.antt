@@ -20,15 +20,14 @@ use Rattle.java_heap.specs.declared.object.Content.TheVariants.{Literal}
 use Rattle.java_heap.specs.declared.object.TheConstants.{STRING}
 use Rattle.java_heap.specs.Heaps.{HeapValue, literal_of, next_number}
 use Rattle.java_heap.specs.Objects.{fresh}
-use Rattle.thread_frames.specs.ThreadStack.{most_frames}
 use Rattle.link_versions.specs.declared.class.InitState.{InitState}
 use Rattle.link_versions.specs.declared.class.InitState.TheVariants as states
 use Rattle.link_versions.specs.Classes.{Class, class_at as class_numbered, version_at, newest_version, is_interface}
 use Rattle.link_versions.specs.Members.{declared_method, method_has}
 use Rattle.machine_state.specs.Core.{Core, MethodFrame, frames_at, class_of_number}
 use Rattle.machine_state.specs.Acts.{State, Act, Changes, SetsClass, PutsStatic, Pops, Pushes, PushesInit, EntersInitializer}
-use Rattle.instruction_effect.specs.Outcomes.{has_room, makes_announced}
-use Rattle.instruction_effect.specs.Arguments.{frame_of, is_refused, newest_body}
+use Rattle.instruction_effect.specs.Outcomes.{heap_has_room, makes_announced}
+use Rattle.instruction_effect.specs.Arguments.{frame_of, is_deep, is_refused, newest_body}
 use Rattle.machine_steps.specs.Throwing.{throws_new, throws_full}
 use Rattle.machine_steps.specs.Linking.{parents}
 
@@ -82,7 +81,7 @@ with_string heap units = record heap { objects = heap.objects ++ fresh STRING (L
 -- A String that isn't there is made, as far as the heap has room; without room nothing more is done.
 abbrev pub set_to_new : ThreadNo → ClassNo → ℕ → List ℕ → HeapValue → Constants → Constants
 set_to_new t n place units heap rest =
-    if has_room heap (Literal units)
+    if heap_has_room heap (Literal units)
     then record (set_to n place (string_at (next_number heap)) rest) { makes = makes_announced t heap STRING (Literal units) string_name ++ rest.makes }
     else record no_constants { full = true }
 
@@ -99,14 +98,11 @@ constants_made t n heap ((place, Text units) ∷ constants) = elim (literal_of h
 abbrev pub overflow_name : Name
 overflow_name = codes "java/lang/StackOverflowError"
 
-abbrev pub is_too_deep : Core → ThreadNo → Bool
-is_too_deep core t = nat_le most_frames (length (frames_at core t))
-
 -- where the step throws, the Strings that it made stay
 abbrev pub begins_with : State → List Class → ThreadNo → ClassNo → Constants → List Act
 begins_with s classes t n made =
     if made.full then throws_full classes s.core t made.makes
-    else if is_too_deep s.core t then throws_new classes s.core t made.makes overflow_name
+    else if is_deep (frames_at s.core t) 0 then throws_new classes s.core t made.makes overflow_name
     else made.makes ++ made.sets ++ Changes (SetsClass n (states.InProgress t)) ∷ Changes (PushesInit t n) ∷ []
 
 abbrev pub constants_at : List Class → ClassNo → List (ℕ × Constant)

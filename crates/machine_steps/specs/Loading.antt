@@ -57,14 +57,14 @@ abbrev pub is_circular : Job → Name → Bool
 is_circular job name = list_any (bytes_eq name) (above_within job (suc (length job.files)) name)
 
 -- a class is there, and is an interface, or is none
-abbrev pub is_interface : Tree → Bool
-is_interface t = has_flag t.flags.bits flags.Interface
+abbrev pub is_interface_file : Tree → Bool
+is_interface_file t = has_flag t.flags.bits flags.Interface
 
 abbrev pub is_known_interface : Job → Name → Bool
-is_known_interface job name = option_map_or is_interface (given_tree job name) false
+is_known_interface job name = option_map_or is_interface_file (given_tree job name) false
 
 abbrev pub is_known_class : Job → Name → Bool
-is_known_class job name = option_map_or (λ t. not (is_interface t)) (given_tree job name) false
+is_known_class job name = option_map_or (λ t. not (is_interface_file t)) (given_tree job name) false
 
 -- its superclass is an interface, or one of its superinterfaces is there and is none
 abbrev pub is_crossed : Job → Tree → Bool

@@ -14,7 +14,7 @@ use Rattle.link_versions.specs.Members.{method_name, method_desc}
 use Rattle.machine_state.specs.Core.{Core, MethodFrame, StackFrame, Throwing, frames_at}
 use Rattle.machine_state.specs.Trace.{MethodName, Place, Exception}
 use Rattle.machine_state.specs.Acts.{Act, Changes, SetsActivity, raises, core_after}
-use Rattle.instruction_effect.specs.Outcomes.{has_room, makes_announced}
+use Rattle.instruction_effect.specs.Outcomes.{heap_has_room, makes_announced}
 
 -- ---- names
 
@@ -79,7 +79,7 @@ base_number classes name = unwrap_or (number_of classes name) (record { 0 = 0 })
 abbrev pub throws_new_among : List Class → Core → ThreadNo → List Act → List Act → Name → List Act
 throws_new_among classes core t before events name =
     let heap = (core_after core before).heap in
-    if has_room heap (Fields [])
+    if heap_has_room heap (Fields [])
     then throws_among classes core t (before ++ makes_announced t heap (base_number classes name) (Fields []) name) events (heaps.next_number heap) name
     else throws_among classes core t before events kept_error full_name
 

@@ -26,8 +26,8 @@ use Rattle.machine_steps.specs.Throwing.{method_of, throws_new, throws_new_among
 -- ---- classes of exceptions
 
 -- an object is of a class of this name, or of one below it
-abbrev pub is_of : List Class → Core → ObjNo → Name → Bool
-is_of classes core o name = elim (heaps.class_at core.heap o) [
+abbrev pub is_instance : List Class → Core → ObjNo → Name → Bool
+is_instance classes core o name = elim (heaps.class_at core.heap o) [
   | None ↦ false
   | Some n ↦ option_map_or (is_subclass classes n) (number_of classes name) false
 ]
@@ -39,7 +39,7 @@ covers pc h = nat_le h.start pc && nat_lt pc h.end
 
 -- a handler without a class catches all
 abbrev pub catches : List Class → Core → List Const → ObjNo → Handler → Bool
-catches classes core pool o h = if h.catch_type == 0 then true else option_map_or (is_of classes core o) (class_at pool h.catch_type) false
+catches classes core pool o h = if h.catch_type == 0 then true else option_map_or (is_instance classes core o) (class_at pool h.catch_type) false
 
 -- The first one that covers the frame's pc and catches the exception. Its operand stack has room for it in each class that was linked.
 abbrev pub handler_of : Setting → State → List Class → MethodFrame → ObjNo → Option Handler
@@ -57,8 +57,8 @@ handling f o h = record f { pc = h.target; stack = record { entries = value.Ref 
 abbrev pub left_events : List Class → ThreadNo → MethodFrame → List Act
 left_events classes t f = raises (MethodExit t (method_of classes f) Threw) ∷ raises (FramePop t (method_of classes f) Threw f.pin.birth) ∷ []
 
-abbrev pub owns : Core → ThreadNo → ObjNo → Bool
-owns core t object = option_map_or (λ owner. owner.0 == t.0) (monitor_at core object).owner false
+abbrev pub owns_monitor : Core → ThreadNo → ObjNo → Bool
+owns_monitor core t object = option_map_or (λ owner. owner.0 == t.0) (monitor_at core object).owner false
 
 abbrev pub monitor_name : Name
 monitor_name = codes "java/lang/IllegalMonitorStateException"
@@ -68,7 +68,7 @@ monitor_name = codes "java/lang/IllegalMonitorStateException"
 abbrev pub leaves_frame : State → List Class → ThreadNo → MethodFrame → Option ObjNo → List Act
 leaves_frame s classes t f None = Changes (Pops t) ∷ left_events classes t f
 leaves_frame s classes t f (Some object) =
-    if owns s.core t object then Changes (Pops t) ∷ Changes (Leaves object) ∷ left_events classes t f
+    if owns_monitor s.core t object then Changes (Pops t) ∷ Changes (Leaves object) ∷ left_events classes t f
     else throws_new_among classes s.core t (Changes (Pops t) ∷ []) (left_events classes t f) monitor_name
 
 -- ---- an initialization fails: section 5.5
@@ -82,7 +82,7 @@ initializer_error = codes "java/lang/ExceptionInInitializerError"
 abbrev pub fails_init : State → List Class → ThreadNo → ClassNo → ObjNo → List Act
 fails_init s classes t n o =
     let before = Changes (SetsClass n states.Erroneous) ∷ Changes (Pops t) ∷ [] in
-    if is_of classes s.core o error_name then before else throws_new classes s.core t before initializer_error
+    if is_instance classes s.core o error_name then before else throws_new classes s.core t before initializer_error
 
 -- ---- one step of a thread that throws this object; None where it has no frame
 
