@@ -3,3 +3,7 @@ pub mod NumberEdges
 pub mod SuperclassInitializer
 pub mod UncaughtException
 pub mod DeadlockIsStuck
+pub mod AddIsubPrintsMinusOne
+pub mod StepLimitMet
+pub mod StepLimitNotMet
+pub mod VerifyErrorThrown

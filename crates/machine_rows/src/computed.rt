@@ -1,3 +1,4 @@
+ghost use Rattle.machine_rows.specs.LimitRows.{AddIsubPrintsMinusOne, StepLimitMet, StepLimitNotMet, VerifyErrorThrown};
 ghost use Rattle.machine_rows.specs.Rows.{AddPrintsFive, NumberEdges, SuperclassInitializer, UncaughtException, DeadlockIsStuck};
 
 /// Does nothing, and is there for its contract: small programs, the schedule that one worker picks for each, how it ends, and the report of
@@ -17,4 +18,19 @@ pub fn worked_rows()
 
     // Two threads wait for each other: no actor is ready.
     ensures deadlock { DeadlockIsStuck }
+{}
+
+/// The same of another sum, of step limits, and of a class that fails its type check.
+pub fn limit_rows()
+    // `2 - 3` is printed.
+    ensures isub { AddIsubPrintsMinusOne }
+
+    // The step limit is met one step before the end.
+    ensures limit { StepLimitMet }
+
+    // A step limit of just as many steps as there are isn't met.
+    ensures exact { StepLimitNotMet }
+
+    // The class fails its type check, and the thread ends by VerifyError.
+    ensures verify { VerifyErrorThrown }
 {}

@@ -3,4 +3,4 @@
 
 mod computed;
 
-pub use computed::worked_rows;
+pub use computed::{limit_rows, worked_rows};
