@@ -5,3 +5,4 @@ pub mod Ending
 pub mod LoadingOnce
 pub mod StayingCode
 pub mod Births
+pub mod Checking

@@ -1,3 +1,4 @@
+pub mod Checking
 pub mod Settings
 pub mod Throwing
 pub mod Loading
