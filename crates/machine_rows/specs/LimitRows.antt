@@ -1,5 +1,5 @@
 -- Further worked rows: another sum, a limit of steps that is met and one that is just not met, and a class that fails its type check.
-use Rattle.std.specs.Prelude.{ℕ, List, [], ◌∷◌, ◌++◌, false, codes, replicate}
+use Rattle.std.specs.Prelude.{ℕ, List, [], ◌∷◌, ◌++◌, codes, replicate}
 use Rattle.ti_ids.specs.declared.actor.Actor.{Actor}
 use Rattle.ti_ids.specs.declared.actor.Actor.TheVariants.{Vm}
 use Rattle.ti_ids.specs.declared.actor.End.TheVariants.{Dead, StepLimit}
@@ -80,9 +80,8 @@ verify_add =
     0 ∷ 18 ∷ 0 ∷ 33 ∷ 0 ∷ 2 ∷ 0 ∷ 4 ∷ 0 ∷ 0 ∷ 0 ∷ 0 ∷ 0 ∷ 1 ∷ 0 ∷ 9 ∷ 0 ∷ 5 ∷ 0 ∷ 6 ∷ 0 ∷ 1 ∷ 0 ∷ 7 ∷ 0 ∷ 0 ∷ 0 ∷ 22 ∷ 0 ∷ 2 ∷ 0 ∷ 1 ∷
     0 ∷ 0 ∷ 0 ∷ 10 ∷ 178 ∷ 0 ∷ 13 ∷ 5 ∷ 6 ∷ 96 ∷ 182 ∷ 0 ∷ 19 ∷ 177 ∷ 0 ∷ 0 ∷ 0 ∷ 0 ∷ 0 ∷ 0 ∷ []
 
--- no class passes
 abbrev pub verify : Setting
-verify = record (setting_of (job_of (codes "Add") (record { name = codes "Add"; bytes = verify_add } ∷ []) 1000)) { passes = λ t. false }
+verify = setting_of (job_of (codes "Add") (record { name = codes "Add"; bytes = verify_add } ∷ []) 1000)
 
 abbrev pub verify_schedule : List Actor
 verify_schedule = replicate 2 Vm ++ replicate 4 (thread 1) ++ replicate 2 Vm
@@ -92,4 +91,3 @@ verify_text = codes "report 1\nprofile 1\nmain Add\nschedule v:2 t1:4 v:2\nsteps
 
 abbrev pub VerifyErrorThrown : Type 0
 VerifyErrorThrown = IsRow verify verify_schedule Dead verify_text
-

@@ -1,5 +1,5 @@
 -- Worked rows: class files, and what their runs report.
-use Rattle.std.specs.Prelude.{◌≡◌, ℕ, List, [], ◌∷◌, ◌++◌, Some, None, true, codes, replicate}
+use Rattle.std.specs.Prelude.{◌≡◌, ℕ, List, [], ◌∷◌, ◌++◌, Some, None, codes, replicate}
 use Rattle.ti_ids.specs.declared.actor.End.{End}
 use Rattle.ti_ids.specs.declared.actor.End.TheVariants.{Dead, Stuck}
 use Rattle.machine_steps.specs.Ends.{end}
@@ -21,9 +21,9 @@ job_of main files slice = record {
   limits = record { steps = 1000000; lines = 10000; output = 1048576; heap = 1000000; slice = slice };
 }
 
--- without agents, and where each class passes its type check
+-- without agents
 abbrev pub setting_of : Job → Setting
-setting_of job = record { job = job; turns = λ env set class bytes. None; answers = λ s env call actor. []; passes = λ t. true }
+setting_of job = record { job = job; turns = λ env set class bytes. None; answers = λ s env call actor. [] }
 
 abbrev pub thread : ℕ → Actor
 thread n = Thread (record { 0 = n })

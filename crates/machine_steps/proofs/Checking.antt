@@ -11,11 +11,12 @@ use Rattle.class_tree.specs.Tree.{code_of}
 use Rattle.type_frames.specs.declared.frame.MapFrame.{MapFrame}
 use Rattle.type_frames.specs.Hierarchies.{Known}
 use Rattle.type_frames.specs.States.{State, held}
-use Rattle.type_frames.specs.TypeChecks.{Checked, initial, checked, map_in, is_bad_map, offends_at_once, AreStates, ChecksIn, TypeChecks, Passes, ClassPasses}
+use Rattle.type_frames.specs.TypeChecks.{Checked, initial, checked, map_in, is_bad_map, offends_at_once, AreStates, ChecksIn, Passes, ClassPasses}
 use Rattle.type_verify.specs.Walking.{entered, passed, Walked}
-use Rattle.type_verify.specs.Recomputing.{typed_from, typed}
+use Rattle.type_verify.specs.Recomputing.{typed_from}
 use Rattle.type_verify.proofs.Reached.{walked_more, walked_none, walked_all}
-use Rattle.type_verify.proofs.Passing.{drop_here, drop_over, begins, typed_begun}
+use Rattle.type_verify.proofs.Passing.{drop_here, begins, typed_begun}
+use Rattle.machine_steps.specs.Laws.{ChecksTypes}
 use Rattle.machine_steps.specs.Checking.{instructions_pass, code_passes, method_passes, place_passes, passes_below, class_passes}
 
 slice_get_none : {A : Type 0} (xs : List A) (k : ℕ) → slice_get xs k ≡ None → length xs ≤ k
@@ -135,10 +136,11 @@ module _ (h : Known) (t : Tree) (place : ℕ) (m : Member) where
 
   passes_so : (has : Option Code) (states : List State) → ChecksIn h t place m has states → (not (offends_at_once h t place m) ≡ true) × (code_passes h t m has ≡ true)
   passes_so None states c = (c.1, refl)
-  passes_so (Some code) states c =
-      (first_not (offends_at_once h t place m) (is_bad_map (map_in t m code)) c.0,
-       and_both (not (is_bad_map (map_in t m code))) _ (second_not (offends_at_once h t place m) (is_bad_map (map_in t m code)) c.0)
-       (states_found (checked h t m code) (checked h t m code).env.instrs refl states c.1))
+  passes_so (Some code) states c = (
+    first_not (offends_at_once h t place m) (is_bad_map (map_in t m code)) c.0,
+    and_both (not (is_bad_map (map_in t m code))) _ (second_not (offends_at_once h t place m) (is_bad_map (map_in t m code)) c.0)
+        (states_found (checked h t m code) (checked h t m code).env.instrs refl states c.1),
+  )
 
   pub method_checks : slice_get t.methods place ≡ Some m → method_passes h t place m ≡ true → Passes h t place
   method_checks there e =
@@ -180,3 +182,6 @@ module _ (h : Known) (t : Tree) where
 
   pub checks_class : ClassPasses h t → class_passes h t ≡ true
   checks_class all = below_all (length t.methods) (omega arith) all
+
+pub checks_types : ChecksTypes
+checks_types h t = (class_checks h t, checks_class h t)

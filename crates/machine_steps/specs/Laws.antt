@@ -1,5 +1,5 @@
 -- The laws of the steps: what holds of every setting, state and schedule.
-use Rattle.std.specs.Prelude.{◌≡◌, ℕ, ◌+◌, ◌≤◌, ◌<◌, ◌^◌, List, ◌++◌, length, map, slice_get, Option, Some, None, true, false}
+use Rattle.std.specs.Prelude.{◌≡◌, ◌↔◌, ℕ, ◌+◌, ◌≤◌, ◌<◌, ◌^◌, List, ◌++◌, length, map, slice_get, Option, Some, None, true, false}
 use Rattle.std.specs.List.{AllByRecursion}
 use Rattle.ti_ids.specs.declared.number.ThreadNo.{ThreadNo}
 use Rattle.ti_ids.specs.declared.actor.Actor.{Actor}
@@ -14,6 +14,10 @@ use Rattle.machine_state.specs.FrameCode.{code}
 use Rattle.machine_state.specs.Laws.{IsThere}
 use Rattle.machine_state.specs.Trace.{Entry}
 use Rattle.machine_state.specs.Acts.{State}
+use Rattle.class_tree.specs.Trees.{Tree}
+use Rattle.type_frames.specs.Hierarchies.{Known}
+use Rattle.type_frames.specs.TypeChecks.{ClassPasses}
+use Rattle.machine_steps.specs.Checking.{class_passes}
 use Rattle.machine_steps.specs.Settings.{Setting}
 use Rattle.machine_steps.specs.Loading.{next_load, Loads}
 use Rattle.machine_steps.specs.Ends.{end, is_enabled}
@@ -83,6 +87,12 @@ pub record ComesBefore (before after : List Name) : Type 0 where
 
 abbrev pub ClassesStay : Type 0
 ClassesStay = (setting : Setting) (s : State) (actor : Actor) → ComesBefore (map (λ c. c.name) s.core.classes) (map (λ c. c.name) (step setting s actor).core.classes)
+
+-- ---- the type check
+
+-- The answer that the link step goes by is that of the specification's type checker.
+abbrev pub ChecksTypes : Type 0
+ChecksTypes = (h : Known) (t : Tree) → (class_passes h t ≡ true) ↔ ClassPasses h t
 
 -- ---- frames
 

@@ -10,7 +10,8 @@ use Rattle.link_versions.specs.Classes.{Class, class_at as class_numbered, versi
 use Rattle.machine_state.specs.Core.{failure_of}
 use Rattle.machine_state.specs.Trace.{ClassPrepare}
 use Rattle.machine_state.specs.Acts.{State, Act, Changes, SetsClass, Fails, raises}
-use Rattle.machine_steps.specs.Settings.{Setting}
+use Rattle.machine_steps.specs.Settings.{Setting, hierarchy}
+use Rattle.machine_steps.specs.Checking.{class_passes}
 use Rattle.machine_steps.specs.Throwing.{name_of, throws_new}
 
 -- ---- which class comes next
@@ -46,7 +47,7 @@ verify_name = codes "java/lang/VerifyError"
 
 -- the type check of the class's newest version
 abbrev pub passes_check : Setting → List Class → ClassNo → Bool
-passes_check setting classes n = option_map_or setting.passes (version_at classes (newest_version classes n)) false
+passes_check setting classes n = option_map_or (class_passes (hierarchy setting.job)) (version_at classes (newest_version classes n)) false
 
 -- a type check that has failed fails again
 abbrev pub links_checked : State → List Class → ThreadNo → ClassNo → Name → Bool → List Act

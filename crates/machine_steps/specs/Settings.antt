@@ -1,14 +1,12 @@
 -- What a machine runs in: its job, and what is defined elsewhere and is only cited here.
-use Rattle.std.specs.Prelude.{◌≡◌, ◌↔◌, ◌++◌, Bool, true, List, map}
+use Rattle.std.specs.Prelude.{◌++◌, List, map}
 use Rattle.std.specs.List.{filter_map}
 use Rattle.ti_ids.specs.declared.number.EnvNo.{EnvNo}
 use Rattle.ti_ids.specs.declared.actor.Actor.{Actor}
-use Rattle.class_tree.specs.Trees.{Tree}
 use Rattle.base_set.specs.BaseSet.{base_set}
 use Rattle.base_set.specs.BaseTrees.{base_tree}
 use Rattle.type_frames.specs.Hierarchies.{Known}
 use Rattle.type_frames.specs.Stated.{stated}
-use Rattle.type_frames.specs.TypeChecks.{ClassPasses}
 use Rattle.machine_state.specs.Jobs.{Job, Call}
 use Rattle.machine_state.specs.Versions.{Turns}
 use Rattle.machine_state.specs.Linked.{tree_of}
@@ -23,13 +21,7 @@ pub record Setting : Type 0 where
   -- what the rules of a set make of a class's bytes
   pub turns : Turns
   pub answers : Answers
-  -- whether a class passes its type check
-  pub passes : Tree → Bool
 
 -- The classes that type checks know: those of the base set and of the files, as they were given (JVM specification 4.10.1).
 abbrev pub hierarchy : Job → Known
 hierarchy job = stated (map base_tree base_set ++ filter_map (λ f. tree_of f.bytes) job.files)
-
--- The answer to the type check is that of the specification's type checker.
-pub record IsChecked (setting : Setting) : Type 0 where
-  pub checked : (t : Tree) → (setting.passes t ≡ true) ↔ ClassPasses (hierarchy setting.job) t

@@ -1,5 +1,5 @@
 -- What a call of the program writes with one worker, and the status that it ends with, where memory is granted and no device fails.
-use Rattle.std.specs.Prelude.{ℕ, List, [], ◌∷◌, Option, Some, None, Result, Ok, Err}
+use Rattle.std.specs.Prelude.{ℕ, List, ◌∷◌, Option, Some, None, Result, Ok, Err}
 use Rattle.ti_ids.specs.declared.actor.Actor.{Actor}
 use Rattle.ti_ids.specs.declared.actor.End.{End}
 use Rattle.ti_ids.specs.declared.actor.End.TheVariants as ends

@@ -1,4 +1,4 @@
-ghost use Rattle.machine_steps.specs.Laws.{NoneAfterEnd, HasStepLeft, CountsOne, AddsRecords, OutputGrows, ObjectsStay, ClassesStay, LoadsOnce, FramesAreBorn, CodeStays, PickedRuns, PickedEnds, StatesSchedule};
+ghost use Rattle.machine_steps.specs.Laws.{NoneAfterEnd, HasStepLeft, CountsOne, AddsRecords, OutputGrows, ObjectsStay, ClassesStay, LoadsOnce, ChecksTypes, FramesAreBorn, CodeStays, PickedRuns, PickedEnds, StatesSchedule};
 
 /// Does nothing, and is there for its contract: the laws of the steps, whatever the job and its agents do.
 pub fn step_laws()
@@ -19,6 +19,9 @@ pub fn step_laws()
 
     // Only a class that isn't there is loaded, and none whose load has failed.
     ensures loads { LoadsOnce }
+
+    // The answer that the link step goes by is that of the specification's type checker.
+    ensures types { ChecksTypes }
 
     // After every schedule no frame is born later than now.
     ensures born { FramesAreBorn }

@@ -1,5 +1,6 @@
 use Rattle.machine_steps.proofs.Stepping.{counts_one, adds_records, output_grows, objects_stay, classes_stay}
 use Rattle.machine_steps.proofs.LoadingOnce.{loads_once}
+use Rattle.machine_steps.proofs.Checking.{checks_types}
 use Rattle.machine_steps.proofs.Births.{frames_are_born}
 use Rattle.machine_steps.proofs.StayingCode.{code_stays}
 use Rattle.machine_steps.proofs.laws.step_laws.Goals as goal
@@ -27,3 +28,6 @@ returns-clause-code c = code_stays
 
 pub returns-clause-born : goal.returns-clause-born
 returns-clause-born c = frames_are_born
+
+pub returns-clause-types : goal.returns-clause-types
+returns-clause-types c = checks_types
