@@ -7,3 +7,5 @@ pub mod AddIsubPrintsMinusOne
 pub mod StepLimitMet
 pub mod StepLimitNotMet
 pub mod VerifyErrorThrown
+pub mod RetransformWhileRunning
+pub mod EitherSettingEnables

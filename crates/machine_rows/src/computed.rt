@@ -1,3 +1,4 @@
+ghost use Rattle.machine_rows.specs.AgentRows.{RetransformWhileRunning, EitherSettingEnables};
 ghost use Rattle.machine_rows.specs.LimitRows.{AddIsubPrintsMinusOne, StepLimitMet, StepLimitNotMet, VerifyErrorThrown};
 ghost use Rattle.machine_rows.specs.Rows.{AddPrintsFive, NumberEdges, SuperclassInitializer, UncaughtException, DeadlockIsStuck};
 
@@ -33,4 +34,13 @@ pub fn limit_rows()
 
     // The class fails its type check, and the thread ends by VerifyError.
     ensures verify { VerifyErrorThrown }
+{}
+
+/// The same of programs with an agent: what its calls and its rules do is given for these rows.
+pub fn agent_rows()
+    // An agent retransforms a method while it runs; the next call runs the new version.
+    ensures running { RetransformWhileRunning }
+
+    // An event is told where either the setting for all or that of the thread is on.
+    ensures either { EitherSettingEnables }
 {}
