@@ -9,3 +9,9 @@ pub mod StepLimitNotMet
 pub mod VerifyErrorThrown
 pub mod RetransformWhileRunning
 pub mod EitherSettingEnables
+pub mod HookChangesConstant
+pub mod IncapableResultStays
+pub mod ObsoleteThoughEqualBytes
+pub mod OrderOfFourGroups
+pub mod HookBreaksTheClass
+pub mod RestlessAgent

@@ -1,5 +1,5 @@
 -- The tool calls that the agents of worked rows make, as far as each of them succeeds. What calls answer in general is not said here.
-use Rattle.std.specs.Prelude.{ℕ, zero, suc, ◌==◌, List, [], ◌∷◌, ◌++◌, length, find, flat_map, Option, Some, None, unwrap_or}
+use Rattle.std.specs.Prelude.{ℕ, zero, suc, ◌==◌, List, [], ◌∷◌, ◌++◌, length, find, flat_map, Option, Some, None, unwrap_or, codes, if◌then◌else◌}
 use Rattle.ti_ids.specs.declared.number.ThreadNo.{ThreadNo}
 use Rattle.ti_ids.specs.declared.number.EnvNo.{EnvNo}
 use Rattle.ti_ids.specs.declared.actor.Actor.{Actor}
@@ -7,14 +7,20 @@ use Rattle.ti_codes.specs.declared.error.ErrorCode.TheVariants as errors
 use Rattle.ti_codes.specs.declared.event.EventKind.{EventKind}
 use Rattle.ti_codes.specs.declared.event.EventKind.TheVariants as kinds
 use Rattle.jv_names.specs.Names.{Name}
-use Rattle.machine_state.specs.Jobs.{Job, Call, AddCapabilities, SetEventNotificationMode, SetBreakpoint, UseRules, RetransformClasses}
-use Rattle.machine_state.specs.Trace.{Trace, CapsChanged, ModeSet, BreakSet, RulesChosen, Retransformed, Replied}
+use Rattle.machine_state.specs.Jobs.{Job, Call, AddCapabilities, SetEventNotificationMode, SetBreakpoint, UseRules, RetransformClasses, AddTransformer, GetStackTrace}
+use Rattle.machine_state.specs.Trace.{Trace, Reply, Texts, CapsChanged, ModeSet, BreakSet, RulesChosen, TransformerAdded, Retransformed, Replied}
 use Rattle.machine_state.specs.Codes.{event_number}
 use Rattle.machine_state.specs.CallNames.{kind_of_call}
 use Rattle.machine_state.specs.Environments.{capabilities_of}
 use Rattle.machine_state.specs.Chains.{acting, capable_chain}
 use Rattle.machine_state.specs.Versions.{Turns, left}
+use Rattle.machine_state.specs.Core.{StackFrame, frames_at}
+use Rattle.machine_state.specs.Events.{place_text}
+use Rattle.machine_state.specs.Linked.{linked}
+use Rattle.machine_state.specs.Obsolete.{is_obsolete}
 use Rattle.machine_state.specs.Acts.{State, Act, Notes}
+use Rattle.machine_steps.specs.Throwing.{place_of}
+use Rattle.thread_frames.specs.declared.frame.StackEntry.TheVariants.{Java, Init}
 use Rattle.machine_steps.specs.Loading.{turn_notes}
 
 -- the event of a number, among those that the rows name
@@ -30,8 +36,23 @@ thread_meant actor None = None
 thread_meant actor (Some zero) = acting actor
 thread_meant actor (Some (suc n)) = Some (record { 0 = suc n })
 
-abbrev pub replies : EnvNo → Call → List Act
-replies env call = Notes (Replied env (kind_of_call call) errors.None []) ∷ []
+-- ---- values: the frames of a thread, the top first, with `!` behind an obsolete one
+
+abbrev pub frame_text : Job → Turns → State → StackFrame → List (List ℕ)
+frame_text job turns s (Init n) = []
+frame_text job turns s (Java f) =
+    (place_text (place_of (linked job turns s.trace s.core.classes) f) ++ (if is_obsolete job turns s.trace s.core.classes f then codes "!" else [])) ∷ []
+
+abbrev pub stack_texts : Job → Turns → State → Option ThreadNo → List (List ℕ)
+stack_texts job turns s None = []
+stack_texts job turns s (Some t) = flat_map (frame_text job turns s) (frames_at s.core t)
+
+abbrev pub values_of : Job → Turns → State → Call → Actor → List Reply
+values_of job turns s (GetStackTrace thread) actor = Texts (stack_texts job turns s (thread_meant actor (Some thread))) ∷ []
+values_of job turns s call actor = []
+
+abbrev pub replies : Job → Turns → State → EnvNo → Call → Actor → List Act
+replies job turns s env call actor = Notes (Replied env (kind_of_call call) errors.None (values_of job turns s call actor)) ∷ []
 
 -- a class is retransformed from the bytes that were kept
 abbrev pub retransforms : Job → Turns → Trace → Actor → Name → List Act
@@ -42,10 +63,11 @@ abbrev pub made_by : Job → Turns → State → EnvNo → Call → Actor → Li
 made_by job turns s env (AddCapabilities caps) actor = Notes (CapsChanged env (capabilities_of s.trace env ++ caps)) ∷ []
 made_by job turns s env (SetEventNotificationMode on event thread) actor = Notes (ModeSet env (kind_numbered event) (thread_meant actor thread) on) ∷ []
 made_by job turns s env (SetBreakpoint class method desc at) actor = Notes (BreakSet (record { method = record { class = class; name = method; desc = desc }; pc = at })) ∷ []
+made_by job turns s env (AddTransformer set capable) actor = Notes (TransformerAdded env set capable) ∷ []
 made_by job turns s env (UseRules set) actor = Notes (RulesChosen env set) ∷ []
 made_by job turns s env (RetransformClasses classes) actor =
     flat_map (retransforms job turns s.trace actor) classes ++ flat_map (λ class. Notes (Retransformed class) ∷ []) classes
 made_by job turns s env call actor = []
 
 abbrev pub answers_of : Job → Turns → State → EnvNo → Call → Actor → List Act
-answers_of job turns s env call actor = made_by job turns s env call actor ++ replies env call
+answers_of job turns s env call actor = made_by job turns s env call actor ++ replies job turns s env call actor

@@ -1,3 +1,5 @@
+ghost use Rattle.machine_rows.specs.ChainRows.{HookChangesConstant, IncapableResultStays, ObsoleteThoughEqualBytes, OrderOfFourGroups};
+ghost use Rattle.machine_rows.specs.HookRows.{HookBreaksTheClass, RestlessAgent};
 ghost use Rattle.machine_rows.specs.AgentRows.{RetransformWhileRunning, EitherSettingEnables};
 ghost use Rattle.machine_rows.specs.LimitRows.{AddIsubPrintsMinusOne, StepLimitMet, StepLimitNotMet, VerifyErrorThrown};
 ghost use Rattle.machine_rows.specs.Rows.{AddPrintsFive, NumberEdges, SuperclassInitializer, UncaughtException, DeadlockIsStuck};
@@ -43,4 +45,25 @@ pub fn agent_rows()
 
     // An event is told where either the setting for all or that of the thread is on.
     ensures either { EitherSettingEnables }
+{}
+
+/// The same of programs whose classes agents transform.
+pub fn chain_rows()
+    // A hook changes a constant when the class is loaded.
+    ensures hooked { HookChangesConstant }
+
+    // What an incapable hook left stays when the class is retransformed.
+    ensures incapable { IncapableResultStays }
+
+    // A frame is obsolete by a version between, though the newest has its own bytes.
+    ensures obsolete { ObsoleteThoughEqualBytes }
+
+    // Incapable transformers have their turns before capable ones, and transformers before hooks.
+    ensures groups { OrderOfFourGroups }
+
+    // A hook makes a class file that is none, and the load fails.
+    ensures broken { HookBreaksTheClass }
+
+    // An agent retransforms a class whenever it is told of a hook.
+    ensures restless { RestlessAgent }
 {}
