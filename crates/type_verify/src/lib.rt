@@ -28,6 +28,8 @@ mod rule_tests;
 #[cfg(test)]
 mod tests;
 mod typed;
+#[cfg(test)]
+mod typed_tests;
 mod verify;
 mod walk;
 #[cfg(test)]
