@@ -15,3 +15,8 @@ pub mod ObsoleteThoughEqualBytes
 pub mod OrderOfFourGroups
 pub mod HookBreaksTheClass
 pub mod RestlessAgent
+pub mod JavaArraysRow
+pub mod JavaNamesRow
+pub mod JavaFaultsRow
+pub mod JavaTextsRow
+pub mod JavaAboveRow

@@ -1,3 +1,8 @@
+ghost use Rattle.machine_rows.specs.JavaArrays.{ArraysPrint};
+ghost use Rattle.machine_rows.specs.JavaNames.{NamesPrint};
+ghost use Rattle.machine_rows.specs.JavaFaults.{FaultsPrint};
+ghost use Rattle.machine_rows.specs.JavaTexts.{TextsPrint};
+ghost use Rattle.machine_rows.specs.JavaAbove.{AbovePrint};
 ghost use Rattle.machine_rows.specs.ChainRows.{HookChangesConstant, IncapableResultStays, ObsoleteThoughEqualBytes, OrderOfFourGroups};
 ghost use Rattle.machine_rows.specs.HookRows.{HookBreaksTheClass, RestlessAgent};
 ghost use Rattle.machine_rows.specs.AgentRows.{RetransformWhileRunning, EitherSettingEnables};
@@ -66,4 +71,22 @@ pub fn chain_rows()
 
     // An agent retransforms a class whenever it is told of a hook.
     ensures restless { RestlessAgent }
+{}
+
+/// Does nothing, and is there for its contract: programs by `javac`, and that they print what `java` prints.
+pub fn java_rows()
+    // Arrays of numbers and of arrays, narrow elements, an index out of range.
+    ensures arrays { ArraysPrint }
+
+    // An interface with a default method, a call of it, `instanceof`.
+    ensures names { NamesPrint }
+
+    // Exceptions, `finally`, messages, null.
+    ensures faults { FaultsPrint }
+
+    // Strings that are joined, longs, a switch, casts.
+    ensures texts { TextsPrint }
+
+    // An abstract class, its static fields and initializer, fields of instances.
+    ensures above { AbovePrint }
 {}

@@ -3,4 +3,4 @@
 
 mod computed;
 
-pub use computed::{agent_rows, chain_rows, limit_rows, worked_rows};
+pub use computed::{agent_rows, chain_rows, java_rows, limit_rows, worked_rows};

@@ -1,0 +1,23 @@
+-- Programs by javac, and what `java` prints of them.
+use Rattle.std.specs.Prelude.{◌≡◌, ℕ, zero, suc, List, true, if◌then◌else◌}
+use Rattle.std.specs.List.{list_all}
+use Rattle.ti_ids.specs.declared.actor.Actor.TheVariants.{Vm}
+use Rattle.machine_state.specs.Core.{has_ended}
+use Rattle.machine_state.specs.Acts.{State}
+use Rattle.machine_steps.specs.Settings.{Setting}
+use Rattle.machine_steps.specs.Replay.{opening, step}
+use Rattle.machine_rows.specs.Rows.{thread}
+
+-- thread 1 goes on until every thread has ended, for so many steps at most
+abbrev pub gone_on : ℕ → Setting → State → State
+gone_on zero setting s = s
+gone_on (suc most) setting s = if list_all has_ended s.core.threads then s else gone_on most setting (step setting s (thread 1))
+
+-- the machine starts, and thread 1 runs
+abbrev pub ran : Setting → State
+ran setting = gone_on 1000 setting (step setting (step setting (opening setting.job) Vm) Vm)
+
+-- It runs to its end, and this is its output.
+pub record Prints (setting : Setting) (output : List ℕ) : Type 0 where
+  pub ended : list_all has_ended (ran setting).core.threads ≡ true
+  pub printed : (ran setting).core.output ≡ output
