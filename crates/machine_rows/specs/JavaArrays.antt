@@ -1,4 +1,4 @@
--- A program by javac, and what `java` prints of it.
+-- The program examples/programs/Arrays.java by `javac --release 8 -g:none`, and what `java` prints of it.
 use Rattle.std.specs.Prelude.{ℕ, List, [], ◌∷◌, codes}
 use Rattle.machine_steps.specs.Settings.{Setting}
 use Rattle.machine_rows.specs.Rows.{job_of, setting_of}
