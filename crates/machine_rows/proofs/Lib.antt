@@ -3,3 +3,7 @@ pub mod NumberEdges
 pub mod SuperclassInitializer
 pub mod UncaughtException
 pub mod DeadlockIsStuck
+pub mod RefusedWords
+pub mod RefusedFetches
+pub mod RefusedClasses
+pub mod RefusedSchedules

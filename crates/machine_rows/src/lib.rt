@@ -2,5 +2,7 @@
 #![tactic(auto)]
 
 mod computed;
+mod refused;
 
 pub use computed::worked_rows;
+pub use refused::refused_rows;
