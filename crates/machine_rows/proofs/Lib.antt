@@ -7,3 +7,4 @@ pub mod RefusedWords
 pub mod RefusedFetches
 pub mod RefusedClasses
 pub mod RefusedSchedules
+pub mod WordsAsked

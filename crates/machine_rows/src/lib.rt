@@ -3,6 +3,8 @@
 
 mod computed;
 mod refused;
+mod words;
 
 pub use computed::worked_rows;
 pub use refused::refused_rows;
+pub use words::worked_words;
