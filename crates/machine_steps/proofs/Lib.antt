@@ -5,3 +5,5 @@ pub mod Ending
 pub mod LoadingOnce
 pub mod StayingCode
 pub mod Births
+pub mod WorkerWords
+pub mod ManyWorkers

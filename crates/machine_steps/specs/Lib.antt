@@ -19,3 +19,4 @@ pub mod Refusals
 pub mod Results
 pub mod Parts
 pub mod StandsFor
+pub mod WordLaws
