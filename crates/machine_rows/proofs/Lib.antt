@@ -6,5 +6,6 @@ pub mod DeadlockIsStuck
 pub mod RefusedWords
 pub mod RefusedFetches
 pub mod RefusedClasses
+pub mod RefusedAgents
 pub mod RefusedSchedules
 pub mod WordsAsked

@@ -24,5 +24,6 @@ classes = record {
   magic_number = λ r. refl;
   version = λ r. refl;
   twice = λ r. refl;
+  of_a_base_class = λ r. refl;
   twice_and_floating = λ r. refl;
 }

@@ -14,6 +14,7 @@ fetches = record {
   agent_absent = λ r. refl;
   schedule_absent = λ r. refl;
   unreadable = λ r. refl;
+  unreadable_again = λ r. refl;
 }
 
 pub lengths : LengthsRefused

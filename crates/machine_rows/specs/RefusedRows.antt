@@ -1,5 +1,5 @@
 -- Calls of the program that are refused before anything is run: words, files, and the line that tells of the refusal.
-use Rattle.std.specs.Prelude.{◌≡◌, ◌<◌, ℕ, List, [], ◌∷◌, ◌++◌, length, flat_map, take, drop, replicate, find, bytes_eq, Option, Some, None, option_map, codes, Result, Ok, Err}
+use Rattle.std.specs.Prelude.{◌≡◌, ◌<◌, ℕ, List, [], ◌∷◌, ◌++◌, length, flat_map, take, drop, replicate, find, bytes_eq, ◌==◌, if◌then◌else◌, Option, Some, None, option_map, codes, Result, Ok, Err}
 use Rattle.machine_state.specs.Jobs.{Agent}
 use Rattle.machine_steps.specs.Options.{Word}
 use Rattle.machine_steps.specs.Refusals.{AgentFault, refusal_text}
@@ -22,12 +22,16 @@ file name bytes = record { name = name; bytes = bytes } ∷ []
 abbrev pub failing : Files
 failing place name = Failed
 
+-- one in which the fetch at a place fails, and any other tells what these do
+abbrev pub failing_at : ℕ → Files → Files
+failing_at failed files place name = if place == failed then Failed else files place name
+
 -- the line of a refusal
 abbrev pub line_of : {A : Type 0} → Answer A → Option (List ℕ)
 line_of (Ok x) = None
 line_of (Err refusal) = Some (refusal_text refusal)
 
--- These words are refused with this line, whatever agent files say.
+-- These words are refused with this line, whatever reads agent files.
 abbrev pub IsRefused : List Word → Files → List ℕ → Type 0
 IsRefused words files text = (read_agent : List ℕ → ℕ → Result Agent AgentFault) → line_of (result_of read_agent words files) ≡ Some text
 
@@ -70,6 +74,10 @@ other_magic = file (codes "Add.class") (203 ∷ drop 1 add_add)
 abbrev pub newer : List Stored
 newer = file (codes "Add.class") (take 7 add_add ++ 53 ∷ drop 8 add_add)
 
+-- with the name of a base class
+abbrev pub base_named : List Stored
+base_named = file (codes "Thread.class") (take 11 add_add ++ (0 ∷ 16 ∷ codes "java/lang/Thread") ++ drop 16 add_add)
+
 -- ---- rows
 
 pub record WordsRefused : Type 0 where
@@ -87,6 +95,8 @@ pub record FetchesRefused : Type 0 where
       IsRefused (run_add ++ (each (codes "--agent") (codes "no.toml" ∷ []) ++ (class (codes "Add_cut.class") ++ each (codes "--donor") (codes "Add_cut.class" ∷ [])))) (stored cut) (codes "refused absent 3\n")
   pub schedule_absent : IsRefused (replay_add (codes "no.txt")) (stored whole) (codes "refused absent 2\n")
   pub unreadable : IsRefused (run_add ++ class (codes "Add.class")) failing (codes "refused read 1\n")
+  -- the first fetch of the name is granted
+  pub unreadable_again : IsRefused (run_add ++ (class (codes "Add.class") ++ class (codes "Add.class"))) (failing_at 2 (stored whole)) (codes "refused read 2\n")
 
 -- `Add`, of a file that may be too long
 abbrev pub of_class : List Word
@@ -124,6 +134,7 @@ pub record ClassesRefused : Type 0 where
   pub version : IsRefused (run_add ++ class (codes "Add.class")) (stored newer) (codes "refused class 1 version 6\n")
   -- the second file of one class, at the index of its name; a fault of its own comes before
   pub twice : IsRefused (run_add ++ each (codes "--class") (codes "Add.class" ∷ codes "Add.class" ∷ [])) (stored whole) (codes "refused class 2 duplicate 196\n")
+  pub of_a_base_class : IsRefused (run_add ++ class (codes "Thread.class")) (stored base_named) (codes "refused class 1 duplicate 209\n")
   pub twice_and_floating : IsRefused (run_add ++ each (codes "--class") (codes "Add.class" ∷ codes "Add_fadd.class" ∷ [])) (stored (whole ++ floating)) (codes "refused class 2 floating 233\n")
 
 -- ---- schedules

@@ -1,7 +1,8 @@
+ghost use Rattle.machine_rows.specs.AgentRows.{AgentsRefused};
 ghost use Rattle.machine_rows.specs.RefusedRows.{WordsRefused, FetchesRefused, LengthsRefused, CountsRefused, ClassesRefused, SchedulesRefused};
 
 /// Does nothing, and is there for its contract: calls that are refused before they run, and the line that is written of each, byte for
-/// byte. Agent files are never looked at.
+/// byte. What reads agent files is left open, and is asked for `agents` alone.
 pub fn refused_rows()
     // The shape of the words.
     ensures words { WordsRefused }
@@ -17,6 +18,9 @@ pub fn refused_rows()
 
     // Class files, by their first fault.
     ensures classes { ClassesRefused }
+
+    // Agent files, by their first fault.
+    ensures agents { AgentsRefused }
 
     // Schedules that are none, and schedules that can't be performed.
     ensures schedules { SchedulesRefused }
