@@ -13,7 +13,7 @@ use Rattle.class_reading.specs.Reading.{u1, u2, u4, s4, u8, s8, raw, many, count
 use Rattle.code_read.specs.FrameReading.{type_at, frame_at}
 use Rattle.report_text.specs.Stated.{stated}
 use Rattle.machine_steps.specs.Results.{agent_file}
-use Rattle.machine_rows.specs.AgentRows.{AgentsRefused}
+use Rattle.machine_rows.specs.RefusedAgentRows.{AgentsRefused}
 
 pub agents : AgentsRefused
 unfolding chars digits printed unit_bytes unit_at class_end dimensions split_class split_dimensions read_class read_element read_type read_field read_result read_method field_flaw method_flaw form_at bytes_of.u2 u1 u2 u4 s4 u8 s8 raw many counted type_at frame_at stated lib.Utf8.encode

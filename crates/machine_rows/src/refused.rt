@@ -1,4 +1,4 @@
-ghost use Rattle.machine_rows.specs.AgentRows.{AgentsRefused};
+ghost use Rattle.machine_rows.specs.RefusedAgentRows.{AgentsRefused};
 ghost use Rattle.machine_rows.specs.RefusedRows.{WordsRefused, FetchesRefused, LengthsRefused, CountsRefused, ClassesRefused, SchedulesRefused};
 
 /// Does nothing, and is there for its contract: calls that are refused before they run, and the line that is written of each, byte for
