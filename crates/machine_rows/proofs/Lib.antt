@@ -20,3 +20,9 @@ pub mod JavaNamesRow
 pub mod JavaFaultsRow
 pub mod JavaTextsRow
 pub mod JavaAboveRow
+pub mod RefusedWords
+pub mod RefusedFetches
+pub mod RefusedClasses
+pub mod RefusedAgents
+pub mod RefusedSchedules
+pub mod WordsAsked

@@ -6,3 +6,5 @@ pub mod LoadingOnce
 pub mod StayingCode
 pub mod Births
 pub mod Checking
+pub mod WorkerWords
+pub mod ManyWorkers

@@ -21,3 +21,4 @@ pub mod Results
 pub mod Parts
 pub mod StandsFor
 pub mod Written
+pub mod WordLaws

@@ -50,12 +50,13 @@ pub data Fetched : Type 0 where
   NotThere : Fetched
   Failed : Fetched
 
+-- what the fetch at a place tells of a name; of two fetches of one name one may fail
 abbrev pub Files : Type 0
-Files = Word → Fetched
+Files = ℕ → Word → Fetched
 
--- those of a store that never fails: each name has these bytes, or is not there
+-- those of a store that never fails: each name has these bytes, or is not there, at every place
 abbrev pub steady : (Word → Option (List ℕ)) → Files
-steady files name = elim (files name) [ None ↦ NotThere | Some bytes ↦ Found bytes ]
+steady files place name = elim (files name) [ None ↦ NotThere | Some bytes ↦ Found bytes ]
 
 -- the bytes of a file at a place, which are no more than a limit allows
 abbrev pub fetched : Limit → ℕ → Fetched → Answer (List ℕ)
@@ -76,7 +77,7 @@ pub record Wanted : Type 0 where
 abbrev pub fetched_all : Files → ℕ → ℕ → List Wanted → Answer (List (List ℕ))
 fetched_all files place total [] = Ok []
 fetched_all files place total (w ∷ others) =
-    fetched w.limit place (files w.name) >>= λ bytes. totalled place (total + length bytes) >>= λ sum.
+    fetched w.limit place (files place w.name) >>= λ bytes. totalled place (total + length bytes) >>= λ sum.
     fetched_all files (place + 1) sum others >>= λ rest. Ok (bytes ∷ rest)
 
 abbrev pub all_within : Limit → List Word → List Wanted
@@ -156,7 +157,7 @@ module _ (read_agent : List ℕ → ℕ → Result jobs.Agent AgentFault) where
   task_of files (Runs given workers) =
       counted given >>= λ n. fetched_all files 1 0 (wanted given) >>= λ contents. job_of given contents >>= λ job. Ok (Run job workers)
   task_of files (Replays given name) =
-      counted given >>= λ n. fetched_all files 1 0 (wanted given) >>= λ contents. fetched ScheduleBytes (n + 1) (files name) >>= λ text.
+      counted given >>= λ n. fetched_all files 1 0 (wanted given) >>= λ contents. fetched ScheduleBytes (n + 1) (files (n + 1) name) >>= λ text.
       job_of given contents >>= λ job. schedule_in text >>= λ schedule. Ok (Replay job schedule)
   task_of files (Makes number size) = Ok (Make number size)
 

@@ -1,4 +1,5 @@
 ghost use Rattle.machine_steps.specs.Laws.{NoneAfterEnd, HasStepLeft, CountsOne, AddsRecords, OutputGrows, ObjectsStay, ClassesStay, LoadsOnce, ChecksTypes, FramesAreBorn, CodeStays, PickedRuns, PickedEnds, StatesSchedule};
+ghost use Rattle.machine_steps.specs.WordLaws.{ManyAreMany};
 
 /// Does nothing, and is there for its contract: the laws of the steps, whatever the job and its agents do.
 pub fn step_laws()
@@ -46,4 +47,10 @@ pub fn schedule_laws()
 
     // The report of a schedule states it.
     ensures states { StatesSchedule }
+{}
+
+/// Does nothing, and is there for its contract: the law of words.
+pub fn word_laws()
+    // Of accepted words, `wants_many` says whether they ask for a run with more than one worker.
+    ensures many { ManyAreMany }
 {}

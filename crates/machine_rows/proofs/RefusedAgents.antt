@@ -1,0 +1,27 @@
+-- The refusals of agent files, computed.
+use Rattle.std.proofs.Common.{refl}
+use Rattle.std.specs.Str.{chars}
+use Rattle.std.specs.Fmt.{digits}
+use Rattle.jv_names.specs.Names.{printed}
+use Rattle.jv_names.specs.Utf8.{unit_bytes}
+use Rattle.jv_names.specs.TextReading.{unit_at}
+use Rattle.jv_names.specs.DescriptorReading.{class_end, dimensions, split_class, split_dimensions, read_class, read_element, read_type}
+use Rattle.jv_names.specs.DescriptorFlaws.{read_field, read_result, read_method, field_flaw, method_flaw}
+use Rattle.class_code.specs.FormSearch.{form_at}
+use Rattle.class_tree.specs.Spelling as bytes_of
+use Rattle.class_reading.specs.Reading.{u1, u2, u4, s4, u8, s8, raw, many, counted}
+use Rattle.code_read.specs.FrameReading.{type_at, frame_at}
+use Rattle.report_text.specs.Stated.{stated}
+use Rattle.machine_steps.specs.Results.{agent_file}
+use Rattle.machine_rows.specs.RefusedAgentRows.{AgentsRefused}
+
+pub agents : AgentsRefused
+unfolding chars digits printed unit_bytes unit_at class_end dimensions split_class split_dimensions read_class read_element read_type read_field read_result read_method field_flaw method_flaw form_at bytes_of.u2 u1 u2 u4 s4 u8 s8 raw many counted type_at frame_at stated lib.Utf8.encode
+agents = record {
+  no_toml = λ r e. rw (e, agent_file) refl;
+  without_name = λ r e. rw (e, agent_file) refl;
+  unknown_key = λ r e. rw (e, agent_file) refl;
+  other_kind = λ r e. rw (e, agent_file) refl;
+  too_many = λ r e. rw (e, agent_file) refl;
+  donors_told = λ r e. rw (e, agent_file) refl;
+}
