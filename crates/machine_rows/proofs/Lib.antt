@@ -26,3 +26,10 @@ pub mod RefusedClasses
 pub mod RefusedAgents
 pub mod RefusedSchedules
 pub mod WordsAsked
+pub mod JavaStartingRow
+pub mod JavaSameRow
+pub mod JavaStoresRow
+pub mod JavaOwnersRow
+pub mod JavaNumbersRow
+pub mod JavaSupersRow
+pub mod JavaSwitchesRow

@@ -2,9 +2,11 @@
 #![tactic(auto)]
 
 mod computed;
+mod programs;
 mod refused;
 mod words;
 
 pub use computed::{agent_rows, chain_rows, java_rows, limit_rows, worked_rows};
+pub use programs::java_program_rows;
 pub use refused::refused_rows;
 pub use words::worked_words;
