@@ -33,3 +33,5 @@ pub mod JavaOwnersRow
 pub mod JavaNumbersRow
 pub mod JavaSupersRow
 pub mod JavaSwitchesRow
+pub mod JavaHandsRow
+pub mod JavaSharedRow

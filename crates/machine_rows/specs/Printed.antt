@@ -1,11 +1,12 @@
 -- Programs by javac, and what `java` prints of them.
-use Rattle.std.specs.Prelude.{◌≡◌, ℕ, zero, suc, List, true, if◌then◌else◌}
+use Rattle.std.specs.Prelude.{◌≡◌, ℕ, zero, suc, List, length, true, if◌then◌else◌}
 use Rattle.std.specs.List.{list_all}
+use Rattle.ti_ids.specs.declared.actor.Actor.{Actor}
 use Rattle.ti_ids.specs.declared.actor.Actor.TheVariants.{Vm}
 use Rattle.machine_state.specs.Core.{has_ended}
 use Rattle.machine_state.specs.Acts.{State}
 use Rattle.machine_steps.specs.Settings.{Setting}
-use Rattle.machine_steps.specs.Replay.{opening, step}
+use Rattle.machine_steps.specs.Replay.{opening, step, state}
 use Rattle.machine_rows.specs.Rows.{thread}
 
 -- thread 1 goes on until every thread has ended, for so many steps at most
@@ -21,3 +22,11 @@ ran setting = gone_on 1000 setting (step setting (step setting (opening setting.
 pub record Prints (setting : Setting) (output : List ℕ) : Type 0 where
   pub ended : list_all has_ended (ran setting).core.threads ≡ true
   pub printed : (ran setting).core.output ≡ output
+
+-- ---- several threads
+
+-- Each entry of this schedule makes a step, all threads end along it, and this is the output.
+pub record PrintsAlong (setting : Setting) (schedule : List Actor) (output : List ℕ) : Type 0 where
+  pub taken : (state setting schedule).steps ≡ length schedule
+  pub ended : list_all has_ended (state setting schedule).core.threads ≡ true
+  pub printed : (state setting schedule).core.output ≡ output

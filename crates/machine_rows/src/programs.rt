@@ -6,6 +6,8 @@ ghost use Rattle.machine_rows.specs.JavaOwners.{OwnersPrint};
 ghost use Rattle.machine_rows.specs.JavaNumbers.{NumbersPrint};
 ghost use Rattle.machine_rows.specs.JavaSupers.{SupersPrint};
 ghost use Rattle.machine_rows.specs.JavaSwitches.{SwitchesPrint};
+ghost use Rattle.machine_rows.specs.JavaHands.{HandsPrint};
+ghost use Rattle.machine_rows.specs.JavaShared.{SharedPrint};
 
 /// Does nothing, and is there for its contract: further programs by `javac`, and that they print what `java` prints.
 pub fn java_program_rows()
@@ -29,4 +31,14 @@ pub fn java_program_rows()
 
     // Both switches, loops.
     ensures switches { SwitchesPrint }
+{}
+
+/// Does nothing, and is there for its contract: two programs by `javac` with two threads, each along one schedule, and
+/// that they print what `java` prints whatever its schedule.
+pub fn java_thread_rows()
+    // One thread waits for the other's notification, and for its end.
+    ensures hands { HandsPrint }
+
+    // Both threads add under one monitor; a thread is started once only.
+    ensures shared { SharedPrint }
 {}
