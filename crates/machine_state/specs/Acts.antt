@@ -23,7 +23,7 @@ use Rattle.thread_frames.specs.declared.frame.StackEntry.TheVariants.{Java, Init
 use Rattle.link_versions.specs.declared.class.InitState.{InitState}
 use Rattle.machine_state.specs.Jobs as jobs
 use Rattle.machine_state.specs.Jobs.{Job, Call, SetTag, GetTag, AgentKind, Native, Callback, agent_at}
-use Rattle.machine_state.specs.Core.{Core, MethodFrame, StackFrame, Activity, Free, Thread, Pending, with_thread, with_frames, with_class, with_monitor, with_queue, same_field}
+use Rattle.machine_state.specs.Core.{Core, CoreClass, MethodFrame, StackFrame, Activity, Free, Thread, Pending, is_of_classes, with_thread, with_frames, with_class, with_monitor, with_queue, same_field}
 use Rattle.machine_state.specs.Trace.{Event, Record, Raised, Turned, Trace}
 use Rattle.machine_state.specs.Codes.{same_kind}
 use Rattle.machine_state.specs.Events as events
@@ -54,7 +54,8 @@ pub data Change : Type 0 where
   NotifiesAll : ObjNo → Change
   TakesBack : ObjNo → ThreadNo → Change
   Prints : List ℕ → Change
-  -- the frames of a thread: the top goes on as this frame stands, is taken away, gets one above it. A frame that is pushed gets its birth.
+  -- the frames of a thread: the top goes on as this frame stands, is taken away, gets one above it. A frame that is pushed gets its birth,
+  -- and none is pushed of a class that isn't there.
   SetsTop : ThreadNo → MethodFrame → Change
   Pops : ThreadNo → Change
   Pushes : ThreadNo → MethodFrame → Change
@@ -93,6 +94,10 @@ going_on f (Init class ∷ below) = Init class ∷ below
 abbrev pub born_at : ℕ → MethodFrame → MethodFrame
 born_at birth frame = record frame { pin = record { birth = birth; monitor = frame.pin.monitor } }
 
+-- the frames with one more, where its classes are there
+abbrev pub with_born : ℕ → List CoreClass → MethodFrame → List StackFrame → List StackFrame
+with_born birth classes frame frames = if is_of_classes classes frame then pushed (Java (born_at birth frame)) frames else frames
+
 -- a list of numbers with one more at a place, counted from 1
 abbrev pub counted_up : List ℕ → ℕ → List ℕ
 counted_up [] place = []
@@ -117,7 +122,7 @@ changed birth (TakesBack object t) core = with_monitor (taken_back t) object cor
 changed birth (Prints bytes) core = record core { output = core.output ++ bytes }
 changed birth (SetsTop t frame) core = with_frames (going_on frame) t core
 changed birth (Pops t) core = with_frames popped t core
-changed birth (Pushes t frame) core = with_frames (pushed (Java (born_at birth frame))) t core
+changed birth (Pushes t frame) core = with_frames (with_born birth core.classes frame) t core
 changed birth (PushesInit t class) core = with_frames (pushed (Init class)) t core
 changed birth (SetsState t state) core = with_thread (λ thread. record thread { state = state }) t core
 changed birth (SetsActivity t activity) core = with_thread (λ thread. record thread { activity = activity }) t core

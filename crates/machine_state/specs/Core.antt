@@ -1,6 +1,6 @@
 -- The machine at one moment (JVM specification 2.5), without what follows from the trace: no version, mask, log, tag, breakpoint
 -- or watch stands here.
-use Rattle.std.specs.Prelude.{ℕ, ◌-◌, Bool, true, false, ◌&&◌, ◌==◌, List, [], ◌∷◌, slice_set, find, Option, option_map, unwrap_or, bytes_eq, if◌then◌else◌}
+use Rattle.std.specs.Prelude.{ℕ, ◌-◌, Bool, true, false, ◌&&◌, ◌==◌, nat_le, List, [], ◌∷◌, length, slice_set, find, Option, option_map, unwrap_or, bytes_eq, if◌then◌else◌}
 use Rattle.std.specs.List.{list_any}
 use Rattle.std.specs.Option.{option_map_or}
 use Rattle.ti_ids.specs.declared.number.ThreadNo.{ThreadNo}
@@ -136,6 +136,14 @@ with_frames change t core = with_thread (λ thread. record thread { frames = cha
 
 abbrev pub class_of_number : Core → ClassNo → Option CoreClass
 class_of_number core n = numbered core.classes n.0
+
+-- a class has this number
+abbrev pub has_class : List CoreClass → ClassNo → Bool
+has_class classes n = nat_le 1 n.0 && nat_le n.0 (length classes)
+
+-- the frame is of classes that are there: its own, and the one that declares its method
+abbrev pub is_of_classes : List CoreClass → MethodFrame → Bool
+is_of_classes classes f = has_class classes f.class && has_class classes f.method.class
 
 abbrev pub with_class : (CoreClass → CoreClass) → ClassNo → Core → Core
 with_class change n core = record core { classes = with_numbered change core.classes n.0 }

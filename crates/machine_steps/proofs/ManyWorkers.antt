@@ -12,11 +12,11 @@ use Rattle.machine_steps.proofs.WorkerWords.{workers, is_many, or_none, counts}
 
 -- ---- accepted pairs
 
-and_first : (a b : Bool) → (a && b) ≡ true → a ≡ true
+pub and_first : (a b : Bool) → (a && b) ≡ true → a ≡ true
 and_first true b e = refl
 and_first false b e = e
 
-and_second : (a b : Bool) → (a && b) ≡ true → b ≡ true
+pub and_second : (a b : Bool) → (a && b) ≡ true → b ≡ true
 and_second true b e = e
 and_second false b e = absurd (false≢true e)
 

@@ -1,5 +1,5 @@
 -- A step changes the code of no frame that lives before and after it.
-use Rattle.std.proofs.Common.{◌≡◌, ◌≤◌, ℕ, zero, suc, List, [], ◌∷◌, ◌++◌, length, Some, refl, ap, subst}
+use Rattle.std.proofs.Common.{◌≡◌, ℕ, zero, suc, List, [], ◌∷◌, ◌++◌, Some, refl, ap, subst}
 use Rattle.std.specs.Prelude.{slice_get}
 use Rattle.std.specs.List.{AllByRecursion}
 use Rattle.std.specs.Option.{option_map_or}
@@ -10,11 +10,12 @@ use Rattle.machine_state.specs.Jobs.{counted}
 use Rattle.thread_frames.specs.declared.frame.StackEntry.TheVariants.{Java}
 use Rattle.machine_state.specs.FrameCode.{code}
 use Rattle.machine_state.specs.Laws.{names_of, IsBorn}
+use Rattle.machine_state.specs.Trace.{Trace}
 use Rattle.machine_state.specs.Acts.{State}
 use Rattle.machine_state.proofs.KeepingCode.{keeps_code}
 use Rattle.machine_steps.specs.Settings.{Setting}
 use Rattle.machine_steps.specs.Replay.{step, state}
-use Rattle.machine_steps.specs.Laws.{CodeStays, IsOld, AreOld}
+use Rattle.machine_steps.specs.Laws.{CodeStays, WasBorn, AreBorn}
 use Rattle.machine_steps.proofs.Stepping.{adds_records, classes_stay}
 use Rattle.machine_steps.proofs.Births.{frames_are_born}
 
@@ -42,22 +43,25 @@ born_stays setting s actor f born =
 
 -- ---- the frames that a thread has were born
 
-frame_old : (n : ℕ) (frames : List StackFrame) (place : ℕ) (f : MethodFrame) → AllByRecursion (IsOld n) frames → slice_get frames place ≡ Some (Java f) → f.pin.birth ≤ n
-frame_old n [] place f h e = absurd cc
-frame_old n (g ∷ frames) zero f h e = let same : g ≡ Java f = cc in subst (IsOld n) same h.0
-frame_old n (g ∷ frames) (suc place) f h e = frame_old n frames place f h.1 e
+frame_born : (trace : Trace) (classes : List CoreClass) (frames : List StackFrame) (place : ℕ) (f : MethodFrame) → AllByRecursion (WasBorn trace classes) frames
+    → slice_get frames place ≡ Some (Java f) → IsBorn trace classes f
+frame_born trace classes [] place f h e = absurd cc
+frame_born trace classes (g ∷ frames) zero f h e = let same : g ≡ Java f = cc in subst (WasBorn trace classes) same h.0
+frame_born trace classes (g ∷ frames) (suc place) f h e = frame_born trace classes frames place f h.1 e
 
-thread_old : (n : ℕ) (threads : List Thread) (place : ℕ) → AreOld n threads → AllByRecursion (IsOld n) (option_map_or (λ t. t.frames) (slice_get threads place) [])
-thread_old n [] place h = tt
-thread_old n (t ∷ threads) zero h = h.0
-thread_old n (t ∷ threads) (suc place) h = thread_old n threads place h.1
+thread_born : (trace : Trace) (classes : List CoreClass) (threads : List Thread) (place : ℕ) → AreBorn trace classes threads
+    → AllByRecursion (WasBorn trace classes) (option_map_or (λ t. t.frames) (slice_get threads place) [])
+thread_born trace classes [] place h = tt
+thread_born trace classes (t ∷ threads) zero h = h.0
+thread_born trace classes (t ∷ threads) (suc place) h = thread_born trace classes threads place h.1
 
-number_old : (n : ℕ) (threads : List Thread) (number : ℕ) → AreOld n threads → AllByRecursion (IsOld n) (option_map_or (λ t. t.frames) (counted threads number) [])
-number_old n threads zero h = tt
-number_old n threads (suc place) h = thread_old n threads place h
+number_born : (trace : Trace) (classes : List CoreClass) (threads : List Thread) (number : ℕ) → AreBorn trace classes threads
+    → AllByRecursion (WasBorn trace classes) (option_map_or (λ t. t.frames) (counted threads number) [])
+number_born trace classes threads zero h = tt
+number_born trace classes threads (suc place) h = thread_born trace classes threads place h
 
 pub code_stays : CodeStays
-code_stays setting schedule actor t place f at class method =
+code_stays setting schedule actor t place f at =
     let s = state setting schedule in
-    let old = number_old (length s.trace) s.core.threads t.0 (frames_are_born setting schedule) in
-    born_stays setting s actor f (record { birth = frame_old (length s.trace) (frames_at s.core t) place f old at; class = class; method = method })
+    let born = number_born s.trace s.core.classes s.core.threads t.0 (frames_are_born setting schedule) in
+    born_stays setting s actor f (frame_born s.trace s.core.classes (frames_at s.core t) place f born at)

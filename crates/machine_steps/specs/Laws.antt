@@ -1,5 +1,5 @@
 -- The laws of the steps: what holds of every setting, state and schedule.
-use Rattle.std.specs.Prelude.{◌≡◌, ◌↔◌, ℕ, ◌+◌, ◌≤◌, ◌<◌, ◌^◌, List, ◌++◌, length, map, slice_get, Option, Some, None, true, false}
+use Rattle.std.specs.Prelude.{◌≡◌, ◌↔◌, ℕ, ◌+◌, ◌<◌, ◌^◌, List, ◌++◌, length, map, slice_get, Option, Some, None, true, false}
 use Rattle.std.specs.List.{AllByRecursion}
 use Rattle.ti_ids.specs.declared.number.ThreadNo.{ThreadNo}
 use Rattle.ti_ids.specs.declared.actor.Actor.{Actor}
@@ -8,11 +8,11 @@ use Rattle.jv_names.specs.Names.{Name}
 use Rattle.link_versions.specs.Classes.{Class, number_of}
 use Rattle.report_text.specs.Named.{AllNamed}
 use Rattle.report_text.specs.Stated.{stated}
-use Rattle.machine_state.specs.Core.{Core, MethodFrame, StackFrame, Thread, failure_of, frames_at}
+use Rattle.machine_state.specs.Core.{Core, CoreClass, MethodFrame, StackFrame, Thread, failure_of, frames_at}
 use Rattle.thread_frames.specs.declared.frame.StackEntry.TheVariants.{Java, Init}
 use Rattle.machine_state.specs.FrameCode.{code}
-use Rattle.machine_state.specs.Laws.{IsThere}
-use Rattle.machine_state.specs.Trace.{Entry}
+use Rattle.machine_state.specs.Laws.{IsBorn}
+use Rattle.machine_state.specs.Trace.{Entry, Trace}
 use Rattle.machine_state.specs.Acts.{State}
 use Rattle.class_tree.specs.Trees.{Tree}
 use Rattle.type_frames.specs.Hierarchies.{Known}
@@ -96,22 +96,22 @@ ChecksTypes = (h : Known) (t : Tree) → (class_passes h t ≡ true) ↔ ClassPa
 
 -- ---- frames
 
--- no frame of a method of these threads was born after the trace had this length
-abbrev pub IsOld : ℕ → StackFrame → Type 0
-IsOld n (Java f) = f.pin.birth ≤ n
-IsOld n (Init class) = Unit {0}
+-- a frame of a method was born in this trace, of classes that are there
+abbrev pub WasBorn : Trace → List CoreClass → StackFrame → Type 0
+WasBorn trace classes (Java f) = IsBorn trace classes f
+WasBorn trace classes (Init class) = Unit {0}
 
-abbrev pub AreOld : ℕ → List Thread → Type 0
-AreOld n threads = AllByRecursion (λ t. AllByRecursion (IsOld n) t.frames) threads
+abbrev pub AreBorn : Trace → List CoreClass → List Thread → Type 0
+AreBorn trace classes threads = AllByRecursion (λ t. AllByRecursion (WasBorn trace classes) t.frames) threads
 
--- In the state after every schedule no frame was born later than now.
+-- In the state after every schedule every frame was born by now, of classes that are there.
 abbrev pub FramesAreBorn : Type 0
-FramesAreBorn = (setting : Setting) (schedule : List Actor) → let s = state setting schedule in AreOld (length s.trace) s.core.threads
+FramesAreBorn = (setting : Setting) (schedule : List Actor) → let s = state setting schedule in AreBorn s.trace s.core.classes s.core.threads
 
--- After every schedule, a step changes the code of no frame that a thread has, of classes that are there.
+-- After every schedule, a step changes the code of no frame that a thread has.
 abbrev pub CodeStays : Type 0
 CodeStays = (setting : Setting) (schedule : List Actor) (actor : Actor) (t : ThreadNo) (place : ℕ) (f : MethodFrame)
-    → let s = state setting schedule in slice_get (frames_at s.core t) place ≡ Some (Java f) → IsThere s.core.classes f.class → IsThere s.core.classes f.method.class
+    → let s = state setting schedule in slice_get (frames_at s.core t) place ≡ Some (Java f)
     → code setting.job setting.turns (step setting s actor).trace (step setting s actor).core.classes f ≡ code setting.job setting.turns s.trace s.core.classes f
 
 -- ---- schedules

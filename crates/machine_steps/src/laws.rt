@@ -24,10 +24,10 @@ pub fn step_laws()
     // The answer that the link step goes by is that of the specification's type checker.
     ensures types { ChecksTypes }
 
-    // After every schedule no frame is born later than now.
+    // After every schedule every frame was born by now, of classes that are there.
     ensures born { FramesAreBorn }
 
-    // After every schedule a step changes the code of no frame that a thread has, of classes that are there.
+    // After every schedule a step changes the code of no frame that a thread has.
     ensures code { CodeStays }
 {}
 
