@@ -1,6 +1,7 @@
 -- What a step does, one change at a time: each changes one part of the core, or adds one record to the trace. A step of the machine is
 -- the list of its acts.
 use Rattle.std.specs.Prelude.{ℕ, zero, suc, ◌+◌, Bool, true, false, ◌&&◌, ◌==◌, List, [], ◌∷◌, ◌++◌, length, map, drop, fold, flat_map, filter, Option, Some, None, bytes_eq, if◌then◌else◌}
+use Rattle.std.specs.List.{list_any}
 use Rattle.std.specs.Option.{option_map_or}
 use Rattle.ti_ids.specs.declared.number.ThreadNo.{ThreadNo}
 use Rattle.ti_ids.specs.declared.number.ObjNo.{ObjNo}
@@ -64,7 +65,7 @@ pub data Change : Type 0 where
   SetsState : ThreadNo → ThreadState → Change
   SetsActivity : ThreadNo → Activity → Change
   MakesThread : ObjNo → Change
-  -- a class is added, goes on, and its `<clinit>` was entered; a load or a type check failed with this class of error
+  -- a class is added, if none has its name, goes on, and its `<clinit>` was entered; a load or a type check failed with this class of error
   AddsClass : Name → InitState → Change
   SetsClass : ClassNo → InitState → Change
   EntersInitializer : ClassNo → Change
@@ -93,6 +94,11 @@ going_on f (Init class ∷ below) = Init class ∷ below
 -- a frame that is pushed with this birth
 abbrev pub born_at : ℕ → MethodFrame → MethodFrame
 born_at birth frame = record frame { pin = record { birth = birth; monitor = frame.pin.monitor } }
+
+-- the classes with one more, where none has its name
+abbrev pub with_added : Name → InitState → List CoreClass → List CoreClass
+with_added name state classes =
+    if list_any (bytes_eq name) (map (λ c. c.name) classes) then classes else record { name = name; state = state; entered = false } ∷ classes
 
 -- the frames with one more, where its classes are there
 abbrev pub with_born : ℕ → List CoreClass → MethodFrame → List StackFrame → List StackFrame
@@ -127,7 +133,7 @@ changed birth (PushesInit t class) core = with_frames (pushed (Init class)) t co
 changed birth (SetsState t state) core = with_thread (λ thread. record thread { state = state }) t core
 changed birth (SetsActivity t activity) core = with_thread (λ thread. record thread { activity = activity }) t core
 changed birth (MakesThread object) core = record core { threads = core.threads ++ new_thread object ∷ [] }
-changed birth (AddsClass name state) core = record core { classes = record { name = name; state = state; entered = false } ∷ core.classes }
+changed birth (AddsClass name state) core = record core { classes = with_added name state core.classes }
 changed birth (SetsClass class state) core = with_class (λ c. record c { state = state }) class core
 changed birth (EntersInitializer class) core = with_class (λ c. record c { entered = true }) class core
 changed birth (Fails class error) core = record core { failures = core.failures ++ record { class = class; error = error } ∷ [] }

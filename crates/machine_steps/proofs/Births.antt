@@ -1,7 +1,7 @@
 -- Every frame was born by now, of classes that are there.
 use Rattle.std.proofs.Common.{◌≡◌, ◌≤◌, ◌<◌, ℕ, zero, suc, ◌+◌, ◌-◌, Bool, true, false, cond, List, [], ◌∷◌, ◌++◌, length, length-append, Option, Some, None, refl, sym, subst, arith}
-use Rattle.std.specs.Prelude.{fold, filter, slice_get, slice_set, drop, nat_le}
-use Rattle.std.specs.List.{AllByRecursion}
+use Rattle.std.specs.Prelude.{fold, filter, slice_get, slice_set, drop, map, nat_le, bytes_eq}
+use Rattle.std.specs.List.{AllByRecursion, list_any}
 use Rattle.std.specs.Option.{option_map_or}
 use Rattle.std.proofs.lemmas.Bool.{leb-true}
 use Rattle.std.proofs.lemmas.Bool.Decides.{nat_tests}
@@ -123,6 +123,10 @@ numbered_length change (c ∷ older) k = grind (arith, nat_tests, numbered_lengt
 as_many : (n : ℕ) (change : CoreClass → CoreClass) (core : Core) (k : ℕ) → IsOldCore n core → AreOld n (length (with_numbered change core.classes k)) core.threads
 as_many n change core k h = subst (λ (c : ℕ). AreOld n c core.threads) (sym (numbered_length change core.classes k)) h
 
+one_more : (n : ℕ) (core : Core) (there : Bool) (c : CoreClass) → IsOldCore n core → AreOld n (length (cond there core.classes (c ∷ core.classes))) core.threads
+one_more n core true c h = h
+one_more n core false c h = later_threads n n (length core.classes) (suc (length core.classes)) core.threads (omega arith) (omega arith) h
+
 change_old : (birth : ℕ) (c : Change) (core : Core) → IsOldCore birth core → IsOldCore birth (changed birth c core)
 change_old birth (SetsTop t frame) core h = with_old birth (length core.classes) core t (λ u. record u { frames = going_on frame u.frames }) (λ u k. going_old birth (length core.classes) frame u.frames k) h
 change_old birth (Pops t) core h = with_old birth (length core.classes) core t (λ u. record u { frames = drop 1 u.frames }) (λ u k. popped_old birth (length core.classes) u.frames k) h
@@ -131,7 +135,7 @@ change_old birth (PushesInit t class) core h = with_old birth (length core.class
 change_old birth (SetsState t state) core h = with_old birth (length core.classes) core t (λ u. record u { state = state }) (λ u k. k) h
 change_old birth (SetsActivity t activity) core h = with_old birth (length core.classes) core t (λ u. record u { activity = activity }) (λ u k. k) h
 change_old birth (MakesThread object) core h = append_old birth (length core.classes) core.threads _ tt h
-change_old birth (AddsClass name state) core h = later_threads birth birth (length core.classes) (suc (length core.classes)) core.threads (omega arith) (omega arith) h
+change_old birth (AddsClass name state) core h = one_more birth core (list_any (bytes_eq name) (map (λ c. c.name) core.classes)) _ h
 change_old birth (SetsClass class state) core h = as_many birth _ core class.0 h
 change_old birth (EntersInitializer class) core h = as_many birth _ core class.0 h
 change_old birth (Makes object) core h = h

@@ -1,7 +1,7 @@
 -- What only grows stays as it was at each act, and so at each step.
 use Rattle.std.proofs.Common.{◌≡◌, ◌∙◌, ℕ, ◌-◌, ◌==◌, List, [], ◌∷◌, ◌++◌, map, length, Option, Some, None, Bool, true, false, cond, refl, sym, ap, append_assoc}
-use Rattle.std.specs.Prelude.{fold, slice_get, slice_set, unwrap_or}
-use Rattle.std.specs.List.{AllByRecursion}
+use Rattle.std.specs.Prelude.{fold, slice_get, slice_set, unwrap_or, bytes_eq}
+use Rattle.std.specs.List.{AllByRecursion, list_any}
 use Rattle.std.specs.Option.{option_map_or}
 use Rattle.std.proofs.lemmas.List.{append-nil}
 use Rattle.std.proofs.Math.Seq.{map-set_same}
@@ -94,7 +94,7 @@ name_by : (b : Bool) (c d : CoreClass) (older next : List CoreClass) → d.name 
 name_by true c d older next e h = ap (λ (n : Name). n ∷ map (λ x. x.name) older) e
 name_by false c d older next e h = ap (λ (l : List Name). c.name ∷ l) h
 
-names_same : (change : CoreClass → CoreClass) (classes : List CoreClass) (n : ℕ) → ((c : CoreClass) → (change c).name ≡ c.name) → map (λ x. x.name) (with_numbered change classes n) ≡ map (λ x. x.name) classes
+pub names_same : (change : CoreClass → CoreClass) (classes : List CoreClass) (n : ℕ) → ((c : CoreClass) → (change c).name ≡ c.name) → map (λ x. x.name) (with_numbered change classes n) ≡ map (λ x. x.name) classes
 names_same change [] n same = refl
 names_same change (c ∷ older) n same = name_by (n == length (c ∷ older)) c (change c) older (with_numbered change older n) (same c) (names_same change older n same)
 
@@ -103,6 +103,10 @@ names_same change (c ∷ older) n same = name_by (n == length (c ∷ older)) c (
 map_last : (xs : List Object) (o : Object) → map (λ x. x.class) (xs ++ o ∷ []) ≡ map (λ x. x.class) xs ++ o.class ∷ []
 map_last [] o = refl
 map_last (x ∷ xs) o = ap (λ (l : List ClassNo). x.class ∷ l) (map_last xs o)
+
+added_before : (there : Bool) (c : CoreClass) (classes : List CoreClass) → ComesBefore (map (λ x. x.name) classes) (map (λ x. x.name) (cond there classes (c ∷ classes)))
+added_before true c classes = come_same (map (λ x. x.name) classes) (map (λ x. x.name) classes) refl
+added_before false c classes = record { new = c.name ∷ []; grown = refl }
 
 pub change_keeps : (birth : ℕ) (c : Change) (core : Core) → Keeps core (changed birth c core)
 change_keeps birth (Makes object) core = record {
@@ -122,7 +126,7 @@ change_keeps birth (Prints bytes) core = record {
 change_keeps birth (AddsClass name state) core = record {
   output = go_same core.output core.output refl;
   objects = go_same (object_classes core) (object_classes core) refl;
-  classes = record { new = name ∷ []; grown = refl };
+  classes = added_before (list_any (bytes_eq name) (class_names core)) (record { name = name; state = state; entered = false }) core.classes;
 }
 change_keeps birth (SetsClass class state) core = keep_same core (changed birth (SetsClass class state) core) refl refl (names_same _ core.classes class.0 (λ c. refl))
 change_keeps birth (EntersInitializer class) core = keep_same core (changed birth (EntersInitializer class) core) refl refl (names_same _ core.classes class.0 (λ c. refl))

@@ -4,6 +4,7 @@ pub mod Picking
 pub mod Ending
 pub mod LoadingOnce
 pub mod StayingCode
+pub mod DifferingNames
 pub mod Births
 pub mod Checking
 pub mod WorkerWords

@@ -1,6 +1,6 @@
 -- The laws of the steps: what holds of every setting, state and schedule.
-use Rattle.std.specs.Prelude.{◌≡◌, ◌↔◌, ℕ, ◌+◌, ◌<◌, ◌^◌, List, ◌++◌, length, map, slice_get, Option, Some, None, true, false}
-use Rattle.std.specs.List.{AllByRecursion}
+use Rattle.std.specs.Prelude.{◌≡◌, ◌↔◌, ℕ, ◌+◌, ◌<◌, ◌^◌, List, ◌++◌, length, map, slice_get, Option, Some, None, true, false, bytes_eq}
+use Rattle.std.specs.List.{AllByRecursion, IsDistinct}
 use Rattle.ti_ids.specs.declared.number.ThreadNo.{ThreadNo}
 use Rattle.ti_ids.specs.declared.actor.Actor.{Actor}
 use Rattle.ti_ids.specs.declared.actor.End.{End}
@@ -79,6 +79,10 @@ pub record IsNew (core : Core) (classes : List Class) (name : Name) : Type 0 whe
 
 abbrev pub LoadsOnce : Type 0
 LoadsOnce = (setting : Setting) (core : Core) (classes : List Class) (wanted name : Name) → next_load setting core classes wanted ≡ Loads name → IsNew core classes name
+
+-- After every schedule no two classes have the same name: none was loaded twice.
+abbrev pub NamesDiffer : Type 0
+NamesDiffer = (setting : Setting) (schedule : List Actor) → IsDistinct bytes_eq (map (λ c. c.name) (state setting schedule).core.classes)
 
 -- The names of the classes that there were stay in their places: new ones come before them.
 pub record ComesBefore (before after : List Name) : Type 0 where

@@ -1,4 +1,4 @@
-ghost use Rattle.machine_steps.specs.Laws.{NoneAfterEnd, HasStepLeft, CountsOne, AddsRecords, OutputGrows, ObjectsStay, ClassesStay, LoadsOnce, ChecksTypes, FramesAreBorn, CodeStays, PickedRuns, PickedEnds, StatesSchedule};
+ghost use Rattle.machine_steps.specs.Laws.{NoneAfterEnd, HasStepLeft, CountsOne, AddsRecords, OutputGrows, ObjectsStay, ClassesStay, LoadsOnce, NamesDiffer, ChecksTypes, FramesAreBorn, CodeStays, PickedRuns, PickedEnds, StatesSchedule};
 ghost use Rattle.machine_steps.specs.WordLaws.{ManyAreMany};
 
 /// Does nothing, and is there for its contract: the laws of the steps, whatever the job and its agents do.
@@ -20,6 +20,9 @@ pub fn step_laws()
 
     // Only a class that isn't there is loaded, and none whose load has failed.
     ensures loads { LoadsOnce }
+
+    // After every schedule no two classes have the same name.
+    ensures names { NamesDiffer }
 
     // The answer that the link step goes by is that of the specification's type checker.
     ensures types { ChecksTypes }

@@ -3,6 +3,7 @@ use Rattle.machine_steps.proofs.LoadingOnce.{loads_once}
 use Rattle.machine_steps.proofs.Checking.{checks_types}
 use Rattle.machine_steps.proofs.Births.{frames_are_born}
 use Rattle.machine_steps.proofs.StayingCode.{code_stays}
+use Rattle.machine_steps.proofs.DifferingNames.{names_differ}
 use Rattle.machine_steps.proofs.laws.step_laws.Goals as goal
 
 pub returns-clause-counts : goal.returns-clause-counts
@@ -31,3 +32,6 @@ returns-clause-born c = frames_are_born
 
 pub returns-clause-types : goal.returns-clause-types
 returns-clause-types c = checks_types
+
+pub returns-clause-names : goal.returns-clause-names
+returns-clause-names c = names_differ
