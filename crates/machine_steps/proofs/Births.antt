@@ -1,5 +1,6 @@
 -- Every frame was born by now, of classes that are there.
 use Rattle.std.proofs.Common.{◌≡◌, ◌≤◌, ◌<◌, ℕ, zero, suc, ◌+◌, ◌-◌, Bool, true, false, cond, List, [], ◌∷◌, ◌++◌, length, length-append, Option, Some, None, refl, sym, subst, arith}
+use Rattle.jv_names.proofs.DescriptorPlaces.{and-left, and-right}
 use Rattle.std.specs.Prelude.{fold, filter, slice_get, slice_set, drop, map, nat_le, bytes_eq}
 use Rattle.std.specs.List.{AllByRecursion, list_any}
 use Rattle.std.specs.Option.{option_map_or}
@@ -17,7 +18,6 @@ use Rattle.machine_state.specs.Acts.{State, Act, Change, Changes, Notes, Makes, 
 use Rattle.machine_steps.specs.Settings.{Setting}
 use Rattle.machine_steps.specs.Actors.{next_acts}
 use Rattle.machine_steps.specs.Replay.{opening, step, step_by, run_from, state}
-use Rattle.machine_steps.proofs.ManyWorkers.{and_first, and_second}
 use Rattle.machine_steps.specs.Laws.{WasBorn, AreBorn, FramesAreBorn}
 
 -- ---- what holds of a frame: its birth is at most this, and of so many classes there are its own
@@ -68,14 +68,14 @@ popped_old n c (f ∷ below) h = h.1
 
 class_there : (classes : List CoreClass) (class : ClassNo) → has_class classes class ≡ true → (0 < class.0) × (class.0 ≤ length classes)
 class_there classes class e =
-    let some = leb-true 1 class.0 (and_first (nat_le 1 class.0) (nat_le class.0 (length classes)) e) in
-    (omega (arith, some), leb-true class.0 (length classes) (and_second (nat_le 1 class.0) (nat_le class.0 (length classes)) e))
+    let some = leb-true 1 class.0 (and-left (nat_le 1 class.0) (nat_le class.0 (length classes)) e) in
+    (omega (arith, some), leb-true class.0 (length classes) (and-right (nat_le 1 class.0) (nat_le class.0 (length classes)) e))
 
 born_old : (n : ℕ) (classes : List CoreClass) (f : MethodFrame) → is_of_classes classes f ≡ true → IsOldFrame n (length classes) (born_at n f)
 born_old n classes f e = record {
   birth = omega arith;
-  class = class_there classes f.class (and_first (has_class classes f.class) (has_class classes f.method.class) e);
-  method = class_there classes f.method.class (and_second (has_class classes f.class) (has_class classes f.method.class) e);
+  class = class_there classes f.class (and-left (has_class classes f.class) (has_class classes f.method.class) e);
+  method = class_there classes f.method.class (and-right (has_class classes f.class) (has_class classes f.method.class) e);
 }
 
 pushed_by : (n : ℕ) (classes : List CoreClass) (f : MethodFrame) (frames : List StackFrame) (b : Bool) → is_of_classes classes f ≡ b → OldFrames n (length classes) frames

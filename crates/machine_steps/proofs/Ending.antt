@@ -1,5 +1,6 @@
 -- The laws of ends and schedules.
 use Rattle.std.proofs.Common.{◌≡◌, ◌<◌, ◌≤◌, ◌+◌, ℕ, zero, suc, List, [], ◌∷◌, Option, Some, None, Bool, true, false, ◌&&◌, cond, leb, refl, sym, ap, subst, arith}
+use Rattle.jv_names.proofs.DescriptorPlaces.{and-right}
 use Rattle.std.specs.Prelude.{is_some, is_none, IsTrue, IfSome}
 use Rattle.std.proofs.lemmas.Bool.{leb-false}
 use Rattle.ti_ids.specs.declared.actor.Actor.{Actor}
@@ -36,10 +37,6 @@ has_step_left setting s e = below_limit (is_dead s.core.phase) setting.job.limit
 
 -- ---- the picked schedule can be run
 
-pub both_true : (a b : Bool) → (a && b) ≡ true → b ≡ true
-both_true true b e = e
-both_true false b e = absurd cc
-
 -- what is picked of this pick, in so many further steps at most
 abbrev pub going_on : ℕ → Setting → State → Option Pick → List Actor
 going_on most setting s p = elim p [ Some p ↦ p.0 ∷ picked_from most setting (step setting s p.0) p.0 (p.1 + 1) | None ↦ [] ]
@@ -66,7 +63,7 @@ over_by : (most : ℕ) (setting : Setting) (s : State) (p : Option Pick) → IfS
     → setting.job.limits.steps ≤ s.steps + suc most → end setting (run_from setting s (going_on most setting s p)) ≡ None → ⊥
 over_by most setting s None may some h few e = absurd (let no : false ≡ true = some e in cc)
 over_by most setting s (Some p) may some h few e =
-    let counted = counts_one setting s p.0 (both_true (is_none (end setting s)) (is_ready setting s p.0) may) in
+    let counted = counts_one setting s p.0 (and-right (is_none (end setting s)) (is_ready setting s p.0) may) in
     h (step setting s p.0) p.0 (p.1 + 1) (omega (arith, few, counted)) e
 
 over : (most : ℕ) (setting : Setting) → IsOver most setting

@@ -1,9 +1,11 @@
 -- Which accepted words ask for more than one worker.
 use Rattle.std.proofs.Common.{◌≡◌, ◌∙◌, ℕ, ◌≤◌, List, [], ◌∷◌, length, drop, Option, Some, None, Bool, true, false, ◌&&◌, ◌||◌, zero, suc, refl, sym, ap, subst, arith}
+use Rattle.jv_names.proofs.DescriptorPlaces.{and-left, and-right}
 use Rattle.std.specs.Prelude.{slice_get, unwrap_or, nat_le, codes, bytes_eq, if◌then◌else◌}
 use Rattle.std.specs.List.{list_any, list_all}
 use Rattle.std.specs.Option.{option_and_then, option_map_or}
 use Rattle.std.proofs.lemmas.Bool.{leb-true, false≢true}
+use Rattle.std.proofs.Math.Bool.{and-true}
 use Rattle.ti_ids.specs.Maybe.{◌>>=◌}
 use Rattle.machine_steps.specs.Options.{Word, Command, Run, Replay, Make, Choice, choices, number, is_in}
 use Rattle.machine_steps.specs.Words.{Pair, pairs_of, many, values, is_met, is_known, are_accepted, number_of, command_of, asked_by, wants_many, Request}
@@ -11,18 +13,6 @@ use Rattle.machine_steps.specs.WordLaws.{asks_many, ManyAreMany}
 use Rattle.machine_steps.proofs.WorkerWords.{workers, is_many, or_none, counts}
 
 -- ---- accepted pairs
-
-pub and_first : (a b : Bool) → (a && b) ≡ true → a ≡ true
-and_first true b e = refl
-and_first false b e = e
-
-pub and_second : (a b : Bool) → (a && b) ≡ true → b ≡ true
-and_second true b e = e
-and_second false b e = absurd (false≢true e)
-
-and_true : (a : Bool) → (a && true) ≡ a
-and_true true = refl
-and_true false = refl
 
 named_value : (p : Pair) (pairs : List Pair) (named : Bool) → named ≡ bytes_eq p.name workers → list_any is_many pairs ≡ list_any many (values workers pairs)
     → list_any is_many (p ∷ pairs) ≡ list_any many (values workers (p ∷ pairs))
@@ -37,28 +27,28 @@ named_values (p ∷ pairs) = named_value p pairs (bytes_eq p.name workers) refl 
 -- a number of workers that is accepted is many from 2 on
 many_number : (value : Word) (found : Option ℕ) → found ≡ number value → option_map_or (λ n. nat_le 1 n && nat_le n 64) found false ≡ true → many value ≡ nat_le 2 (unwrap_or found 1)
 many_number value None e ok = absurd (false≢true ok)
-many_number value (Some n) e ok = rw (sym e, and_second (nat_le 1 n) (nat_le n 64) ok) (and_true (nat_le 2 n))
+many_number value (Some n) e ok = rw (sym e, and-right (nat_le 1 n) (nat_le n 64) ok) (and-true (nat_le 2 n))
 
 accepted_values : (found : List Word) → (nat_le (length found) 1 && list_all (is_in 1 64) found) ≡ true → list_any many found ≡ nat_le 2 (unwrap_or (option_and_then number (slice_get found 0)) 1)
 accepted_values [] ok = refl
-accepted_values (value ∷ []) ok = or_none (many value) ∙ many_number value (number value) refl (and_first (is_in 1 64 value) true (and_second true (is_in 1 64 value && true) ok))
+accepted_values (value ∷ []) ok = or_none (many value) ∙ many_number value (number value) refl (and-left (is_in 1 64 value) true (and-right true (is_in 1 64 value && true) ok))
 accepted_values (value ∷ (next ∷ others)) ok =
     let found : List Word = value ∷ (next ∷ others) in
-    let few : length found ≤ 1 = leb-true (length found) 1 (and_first (nat_le (length found) 1) (list_all (is_in 1 64) found) ok) in
+    let few : length found ≤ 1 = leb-true (length found) 1 (and-left (nat_le (length found) 1) (list_all (is_in 1 64) found) ok) in
     absurd (omega arith)
 
 -- what holds of all choices holds of those behind the first ones
 behind_first : (met : Choice → Bool) (n : ℕ) (all : List Choice) → list_all met all ≡ true → list_all met (drop n all) ≡ true
 behind_first met zero all e = e
 behind_first met (suc n) [] e = refl
-behind_first met (suc n) (c ∷ others) e = behind_first met n others (and_second (met c) (list_all met others) e)
+behind_first met (suc n) (c ∷ others) e = behind_first met n others (and-right (met c) (list_all met others) e)
 
 accepted : (pairs : List Pair) → are_accepted Run pairs ≡ true → list_any is_many pairs ≡ nat_le 2 (number_of workers pairs)
 accepted pairs ok =
     let met : Choice → Bool = is_met Run pairs in
-    let behind = behind_first met 5 choices (and_second (list_all is_known pairs) (list_all met choices) ok) in
+    let behind = behind_first met 5 choices (and-right (list_all is_known pairs) (list_all met choices) ok) in
     let found : List Word = values workers pairs in
-    named_values pairs ∙ accepted_values found (and_first (nat_le (length found) 1 && list_all (is_in 1 64) found) (list_all met (drop 6 choices)) behind)
+    named_values pairs ∙ accepted_values found (and-left (nat_le (length found) 1 && list_all (is_in 1 64) found) (list_all met (drop 6 choices)) behind)
 
 -- ---- requests
 

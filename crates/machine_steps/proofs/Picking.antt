@@ -1,5 +1,6 @@
 -- Where there is no end, an actor is picked, and a picked actor is enabled.
 use Rattle.std.proofs.Common.{◌≡◌, ◌∙◌, ℕ, List, [], ◌∷◌, ◌++◌, Option, Some, None, Bool, true, false, ◌&&◌, ◌||◌, cond, leb, length, refl, sym, ap, subst}
+use Rattle.jv_names.proofs.DescriptorPlaces.{and-right}
 use Rattle.std.specs.Prelude.{find, is_some, is_none, IfSome, nat_lt, option_map}
 use Rattle.std.specs.List.{list_any}
 use Rattle.std.proofs.lemmas.List.Folds.{list_any-append}
@@ -78,10 +79,6 @@ find_true p (y ∷ xs) x e =
       | false ↦ λ is k. find_true p xs x k
     ] refl e
 
-both_true : (a b : Bool) → (a && b) ≡ true → b ≡ true
-both_true true b e = e
-both_true false b e = absurd cc
-
 found_enabled : (p : Actor → Bool) (r : Option Actor) → ((x : Actor) → r ≡ Some x → p x ≡ true) → IfSome (anew r) (λ q. p q.0 ≡ true)
 found_enabled p None f = tt
 found_enabled p (Some a) f = f a refl
@@ -89,7 +86,7 @@ found_enabled p (Some a) f = f a refl
 enabled_of : (p : Actor → Bool) (a : Bool) (c : Actor) (m : ℕ) (xs : List Actor) → IfSome (cond (a && p c) (Some (let q : Pick = (c, m) in q)) (anew (find p xs))) (λ q. p q.0 ≡ true)
 enabled_of p a c m xs =
     elim (a && p c) as (λ b. (a && p c) ≡ b → IfSome (cond b (Some (let q : Pick = (c, m) in q)) (anew (find p xs))) (λ q. p q.0 ≡ true)) [
-      | true ↦ λ is. both_true a (p c) is
+      | true ↦ λ is. and-right a (p c) is
       | false ↦ λ is. found_enabled p (find p xs) (find_true p xs)
     ] refl
 
