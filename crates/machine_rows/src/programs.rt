@@ -33,8 +33,8 @@ pub fn java_program_rows()
     ensures switches { SwitchesPrint }
 {}
 
-/// Does nothing, and is there for its contract: two programs by `javac` with two threads, each along one schedule, and
-/// that they print what `java` prints whatever its schedule.
+/// Does nothing, and is there for its contract: two programs by `javac` with two threads, and what each prints along one
+/// schedule.
 pub fn java_thread_rows()
     // One thread waits for the other's notification, and for its end.
     ensures hands { HandsPrint }
