@@ -4,9 +4,9 @@
 # the gate, and is skipped where the program isn't built or python3 is missing.
 set -eu
 here=$(cd "$(dirname "$0")" && pwd)
-program=$here/../crates/class_check/out/class_check
+program=$here/../crates/classfile_check/out/classfile_check
 if [ ! -x "$program" ]; then
-    echo "classes.sh: skipped, since class_check isn't built"
+    echo "classes.sh: skipped, since classfile_check isn't built"
     exit 0
 fi
 if ! command -v python3 >/dev/null 2>&1; then
@@ -15,7 +15,7 @@ if ! command -v python3 >/dev/null 2>&1; then
 fi
 folder=$(mktemp -d)
 trap 'rm -rf "$folder"' EXIT
-cp "$(ls -S "$here"/../crates/class_check/data/*.class | head -n 1)" "$folder/Small.class"
+cp "$(ls -S "$here"/../crates/classfile_check/data/*.class | head -n 1)" "$folder/Small.class"
 cd "$folder"
 python3 "$here/large_class.py" 9800 Large.class
 

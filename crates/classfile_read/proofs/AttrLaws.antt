@@ -13,17 +13,17 @@ use Rattle.class_tree.specs.Tree.{entry_at, text_at}
 use Rattle.class_tree.specs.PoolRules.{has_text}
 use Rattle.class_tree.specs.CodeRules.{is_content, is_code}
 use Rattle.class_tree.specs.WellFormed.{Owner, Class, Method, Field, StaticField, is_read, is_value, is_attr}
-use Rattle.class_reading.specs.declared.fault.ReadClassFault.TheVariants.{BadIndex}
-use Rattle.class_reading.specs.Reading.{Found}
-use Rattle.code_read.specs.CodeReading.{code}
+use Rattle.classfile_items.specs.declared.fault.ReadClassFault.TheVariants.{BadIndex}
+use Rattle.classfile_items.specs.Reading.{Found}
+use Rattle.classfile_code.specs.CodeReading.{code}
 use Rattle.classfile_read.specs.ClassReading.{raw_attr, value, owned, attr_at}
-use Rattle.class_reading.proofs.Laws.{IsSoundBehind, IsSound, IsComplete, on_test}
-use Rattle.class_reading.proofs.StepLaws.{second_step, step_known}
-use Rattle.class_reading.proofs.Indices.{index_short}
-use Rattle.class_reading.proofs.Indices.{has_text_parts, has_text_from}
-use Rattle.class_reading.proofs.TestLaws.{tested_sound, tested_complete}
-use Rattle.class_reading.proofs.ContentLaws.{IsText, name_known, text_index_complete, kept_sound, kept_complete, measured_sound, measured_complete}
-use Rattle.code_read.proofs.CodeLaws.{code_sound, code_complete}
+use Rattle.classfile_items.proofs.Laws.{IsSoundBehind, IsSound, IsComplete, on_test}
+use Rattle.classfile_items.proofs.StepLaws.{second_step, step_known}
+use Rattle.classfile_items.proofs.Indices.{index_short}
+use Rattle.classfile_items.proofs.Indices.{has_text_parts, has_text_from}
+use Rattle.classfile_items.proofs.TestLaws.{tested_sound, tested_complete}
+use Rattle.classfile_items.proofs.ContentLaws.{IsText, name_known, text_index_complete, kept_sound, kept_complete, measured_sound, measured_complete}
+use Rattle.classfile_code.proofs.CodeLaws.{code_sound, code_complete}
 
 -- what is read as its owner says
 owned_sound : (major : ℕ) (pool : List Const) (end : ℕ) (owner : Owner) (name : ℕ × Name) → IsText pool name → is_read owner name.1 ≡ true → IsSoundBehind (bytes_of.u2 name.0) (owned major pool end owner name.0) attr_bytes (is_attr major pool owner)

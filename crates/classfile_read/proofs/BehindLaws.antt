@@ -15,15 +15,15 @@ use Rattle.class_tree.specs.Tree.{entry_at, class_at, names_plain_class}
 use Rattle.class_tree.specs.Tree as look_up
 use Rattle.class_tree.specs.Trees.{Tree}
 use Rattle.class_tree.specs.WellFormed.{Class, is_attr, are_attrs, are_members}
-use Rattle.class_reading.specs.declared.fault.ReadClassFault.TheVariants.{BadText}
-use Rattle.class_reading.specs.Reading.{Checked, ◌>>=◌, offset, u2, counted}
+use Rattle.classfile_items.specs.declared.fault.ReadClassFault.TheVariants.{BadText}
+use Rattle.classfile_items.specs.Reading.{Checked, ◌>>=◌, offset, u2, counted}
 use Rattle.classfile_read.specs.ClassReading.{attr_at, members, plain_fault, plain_class, finished}
-use Rattle.class_reading.proofs.Laws.{Stands, IsSound, IsComplete}
-use Rattle.class_reading.proofs.StepLaws.{sound_steps, joined}
-use Rattle.class_reading.proofs.NumberLaws.{u2_sound, u2_complete}
-use Rattle.class_reading.proofs.ListLaws.{counted_sound, counted_complete}
-use Rattle.class_reading.proofs.Indices.{index_short}
-use Rattle.class_reading.proofs.FaultLaws.{faultless_of, unless_holds}
+use Rattle.classfile_items.proofs.Laws.{Stands, IsSound, IsComplete}
+use Rattle.classfile_items.proofs.StepLaws.{sound_steps, joined}
+use Rattle.classfile_items.proofs.NumberLaws.{u2_sound, u2_complete}
+use Rattle.classfile_items.proofs.ListLaws.{counted_sound, counted_complete}
+use Rattle.classfile_items.proofs.Indices.{index_short}
+use Rattle.classfile_items.proofs.FaultLaws.{faultless_of, unless_holds}
 use Rattle.classfile_read.proofs.AttrLaws.{attr_sound, attr_complete}
 use Rattle.classfile_read.proofs.DistinctLaws.{members_sound, members_complete}
 

@@ -6,10 +6,10 @@ use Rattle.jv_names.specs.TextReading.{unit_at}
 use Rattle.jv_names.specs.DescriptorReading.{class_end, dimensions, split_class, split_dimensions, read_class, read_element, read_type}
 use Rattle.jv_names.specs.DescriptorFlaws.{read_field, read_result, read_method, field_flaw, method_flaw}
 use Rattle.class_code.specs.FormSearch.{form_at}
-use Rattle.class_reading.specs.declared.fault.ReadClassFault.{ReadClassFault}
-use Rattle.class_reading.specs.declared.fault.ReadClassFault.TheVariants.{Magic, Version, Truncated, Trailing, BadTag, BadIndex, BadText, BadLength, BadMember, Floating, Unsupported, BadCode, Duplicate}
-use Rattle.class_reading.specs.Reading.{Checked, u1, u2, u4, s4, u8, s8, raw, many, counted}
-use Rattle.code_read.specs.FrameReading.{type_at, frame_at}
+use Rattle.classfile_items.specs.declared.fault.ReadClassFault.{ReadClassFault}
+use Rattle.classfile_items.specs.declared.fault.ReadClassFault.TheVariants.{Magic, Version, Truncated, Trailing, BadTag, BadIndex, BadText, BadLength, BadMember, Floating, Unsupported, BadCode, Duplicate}
+use Rattle.classfile_items.specs.Reading.{Checked, u1, u2, u4, s4, u8, s8, raw, many, counted}
+use Rattle.classfile_code.specs.FrameReading.{type_at, frame_at}
 use Rattle.classfile_read.specs.ClassReading.{class_of}
 use Rattle.class_tree.specs.Spelling as bytes_of
 

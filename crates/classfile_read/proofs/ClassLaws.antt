@@ -12,17 +12,17 @@ use Rattle.class_tree.specs.Tree.{names_plain_class}
 use Rattle.class_tree.specs.Trees.{Tree}
 use Rattle.class_tree.specs.PoolRules.{is_pool}
 use Rattle.class_tree.specs.WellFormed.{are_members, is_version, is_well_formed}
-use Rattle.class_reading.specs.declared.fault.ReadClassFault.{ReadClassFault}
-use Rattle.class_reading.specs.declared.fault.ReadClassFault.TheVariants.{Magic, Version}
-use Rattle.class_reading.specs.Reading.{Checked, Mirrors, Tells, offset, u4}
-use Rattle.pool_read.specs.PoolReading.{pool_at}
+use Rattle.classfile_items.specs.declared.fault.ReadClassFault.{ReadClassFault}
+use Rattle.classfile_items.specs.declared.fault.ReadClassFault.TheVariants.{Magic, Version}
+use Rattle.classfile_items.specs.Reading.{Checked, Mirrors, Tells, offset, u4}
+use Rattle.classfile_pool.specs.PoolReading.{pool_at}
 use Rattle.classfile_read.specs.ClassReading.{is_magic, magic, class_from, class_of}
 use Rattle.classfile_read.specs.Lawful.{Spells, FirstFault, Gives, Refuses}
-use Rattle.class_reading.proofs.Laws.{IsSound, step_at, done, on_provided, of_found, steps_of}
-use Rattle.class_reading.proofs.StepLaws.{sound_steps}
-use Rattle.class_reading.proofs.NumberLaws.{u2_sound, u2_complete, u4_sound}
-use Rattle.pool_read.proofs.PoolLaws.{PoolStands, pool_sound, pool_short, pool_complete}
-use Rattle.class_reading.proofs.TestLaws.{tested_sound, tested_complete}
+use Rattle.classfile_items.proofs.Laws.{IsSound, step_at, done, on_provided, of_found, steps_of}
+use Rattle.classfile_items.proofs.StepLaws.{sound_steps}
+use Rattle.classfile_items.proofs.NumberLaws.{u2_sound, u2_complete, u4_sound}
+use Rattle.classfile_pool.proofs.PoolLaws.{PoolStands, pool_sound, pool_short, pool_complete}
+use Rattle.classfile_items.proofs.TestLaws.{tested_sound, tested_complete}
 use Rattle.classfile_read.proofs.BehindLaws.{some_entries, not_zero, BehindStands, behind_sound, behind_complete}
 
 -- ---- the front

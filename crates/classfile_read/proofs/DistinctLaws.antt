@@ -13,10 +13,10 @@ use Rattle.class_tree.specs.Tree.{text_at}
 use Rattle.class_tree.specs.PoolRules.{has_text}
 use Rattle.class_tree.specs.WellFormed.{is_member, same_names, are_distinct, are_members}
 use Rattle.classfile_read.specs.ClassReading.{Names, is_among, member, members_from, members}
-use Rattle.class_reading.proofs.Laws.{Stands, IsSound, IsComplete, steps_of, of_found}
-use Rattle.class_reading.proofs.StepLaws.{sound_steps, joined}
-use Rattle.class_reading.proofs.NumberLaws.{u2_sound, u2_complete}
-use Rattle.class_reading.proofs.Indices.{text_passes}
+use Rattle.classfile_items.proofs.Laws.{Stands, IsSound, IsComplete, steps_of, of_found}
+use Rattle.classfile_items.proofs.StepLaws.{sound_steps, joined}
+use Rattle.classfile_items.proofs.NumberLaws.{u2_sound, u2_complete}
+use Rattle.classfile_items.proofs.Indices.{text_passes}
 use Rattle.classfile_read.proofs.MemberLaws.{HasNames, member_sound, member_named, member_complete}
 
 -- ---- names that are new

@@ -12,8 +12,8 @@ use Rattle.class_tree.specs.Spelling.{class_bytes}
 use Rattle.class_tree.specs.Spelling as bytes_of
 use Rattle.class_tree.specs.WellFormed.{is_well_formed}
 use Rattle.jv_names.specs.TextReading.{unit_at}
-use Rattle.class_reading.specs.declared.fault.ReadClassFault.TheVariants.{Truncated, Magic, Trailing}
-use Rattle.class_reading.specs.Reading.{u1, u2, u4, many, counted}
+use Rattle.classfile_items.specs.declared.fault.ReadClassFault.TheVariants.{Truncated, Magic, Trailing}
+use Rattle.classfile_items.specs.Reading.{u1, u2, u4, many, counted}
 use Rattle.classfile_read.specs.ClassReading.{class_of}
 
 -- `class A {}`, without attributes and without a constructor

@@ -16,18 +16,18 @@ use Rattle.class_tree.specs.Spelling as bytes_of
 use Rattle.class_tree.specs.Tree.{text_at}
 use Rattle.class_tree.specs.PoolRules.{is_name, desc_flaw, has_text}
 use Rattle.class_tree.specs.WellFormed.{is_attr, are_attrs, owner_of, are_flags, has_its_body, is_member}
-use Rattle.class_reading.specs.declared.fault.ReadClassFault.TheVariants.{BadText, BadMember, Unsupported, Duplicate}
-use Rattle.class_reading.specs.Reading.{provided, offset}
-use Rattle.pool_read.specs.PoolReading.{text_fault}
-use Rattle.class_reading.specs.Contents.{text_index}
+use Rattle.classfile_items.specs.declared.fault.ReadClassFault.TheVariants.{BadText, BadMember, Unsupported, Duplicate}
+use Rattle.classfile_items.specs.Reading.{provided, offset}
+use Rattle.classfile_pool.specs.PoolReading.{text_fault}
+use Rattle.classfile_items.specs.Contents.{text_index}
 use Rattle.classfile_read.specs.ClassReading.{attr_at, name_at, desc_at, flags_at, Names, is_among, member}
-use Rattle.class_reading.proofs.Laws.{Stands, IsSound, IsComplete, step_at, done, on_provided, steps_of}
-use Rattle.class_reading.proofs.StepLaws.{StandsAs, sound_steps, provided_of, joined}
-use Rattle.class_reading.proofs.NumberLaws.{u2_sound, u2_complete}
-use Rattle.class_reading.proofs.ListLaws.{counted_sound, counted_complete}
-use Rattle.class_reading.proofs.Indices.{has_text_parts, has_text_from, text_holds}
-use Rattle.class_reading.proofs.FaultLaws.{faultless_of, mapped_none, none_mapped}
-use Rattle.class_reading.proofs.ContentLaws.{IsText, name_known, text_index_complete}
+use Rattle.classfile_items.proofs.Laws.{Stands, IsSound, IsComplete, step_at, done, on_provided, steps_of}
+use Rattle.classfile_items.proofs.StepLaws.{StandsAs, sound_steps, provided_of, joined}
+use Rattle.classfile_items.proofs.NumberLaws.{u2_sound, u2_complete}
+use Rattle.classfile_items.proofs.ListLaws.{counted_sound, counted_complete}
+use Rattle.classfile_items.proofs.Indices.{has_text_parts, has_text_from, text_holds}
+use Rattle.classfile_items.proofs.FaultLaws.{faultless_of, mapped_none, none_mapped}
+use Rattle.classfile_items.proofs.ContentLaws.{IsText, name_known, text_index_complete}
 use Rattle.classfile_read.proofs.AttrLaws.{attr_sound, attr_complete}
 
 -- ---- flags, name and descriptor

@@ -5,11 +5,11 @@ use Rattle.std.proofs.Math.Nat.{sub-zero}
 use Rattle.class_tree.specs.declared.pool.Const.{Const}
 use Rattle.class_tree.specs.declared.members.Member.{Member}
 use Rattle.class_tree.specs.declared.members.MemberKind.{MemberKind}
-use Rattle.class_reading.specs.declared.fault.ReadClassFault.{ReadClassFault}
-use Rattle.class_reading.specs.Reading.{Tells}
+use Rattle.classfile_items.specs.declared.fault.ReadClassFault.{ReadClassFault}
+use Rattle.classfile_items.specs.Reading.{Tells}
 use Rattle.classfile_read.specs.ClassReading.{Names, member, members_from}
 use Rattle.classfile_read.specs.Repeats.{RankPair, Remembers, names_of}
-use Rattle.class_reading.proofs.Many.{after, after-nil, after-after}
+use Rattle.classfile_items.proofs.Many.{after, after-nil, after-after}
 use Rattle.classfile_read.proofs.Repeats.{nothing_yet}
 
 module _ (major : ℕ) (pool : List Const) (end : ℕ) (kind : MemberKind) where

@@ -12,13 +12,13 @@ use Rattle.class_tree.specs.Tree.{entry_at, class_at}
 use Rattle.class_tree.specs.Trees.{Tree}
 use Rattle.class_tree.specs.PoolRules.{is_name, desc_flaw}
 use Rattle.class_tree.specs.WellFormed.{Owner, Class, Method, Field, StaticField, is_read, is_value, owner_of, has_its_body, is_version}
-use Rattle.class_reading.specs.declared.fault.ReadClassFault.TheVariants.{Memory}
-use Rattle.class_reading.specs.Reading.{offset}
+use Rattle.classfile_items.specs.declared.fault.ReadClassFault.TheVariants.{Memory}
+use Rattle.classfile_items.specs.Reading.{offset}
 use Rattle.classfile_read.specs.ClassReading.{raw_attr, body, constant, owned, attr_at, name_at, desc_at, flags_at, Names, is_among, member, members_from, members, plain_fault, plain_class, is_magic, magic, version, finished, class_from, class_of}
 use Rattle.classfile_read.specs.ClassReading as of
-use Rattle.class_reading.proofs.NeverMemory.{NeverMemory, IfFault, value, refused, chain, on_test, on_provided, on_faultless, on_unless, on_map, u2_never, u4_never, counted_never, text_index_never, kept_never, measured_never}
-use Rattle.pool_read.proofs.NeverMemory.{text_fault_of, pool_never}
-use Rattle.code_read.proofs.NeverMemory.{code_never}
+use Rattle.classfile_items.proofs.NeverMemory.{NeverMemory, IfFault, value, refused, chain, on_test, on_provided, on_faultless, on_unless, on_map, u2_never, u4_never, counted_never, text_index_never, kept_never, measured_never}
+use Rattle.classfile_pool.proofs.NeverMemory.{text_fault_of, pool_never}
+use Rattle.classfile_code.proofs.NeverMemory.{code_never}
 
 -- ---- attributes
 

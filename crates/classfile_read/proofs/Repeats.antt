@@ -18,7 +18,7 @@ use Rattle.jv_names.specs.Names.{Name}
 use Rattle.class_tree.specs.declared.pool.Const.{Const}
 use Rattle.class_tree.specs.declared.pool.Const.TheVariants as const
 use Rattle.class_tree.specs.Tree.{entry_at, text_of, text_at, is_text}
-use Rattle.pool_read.specs.Ranks.{rank_of, rank_at}
+use Rattle.classfile_pool.specs.Ranks.{rank_of, rank_at}
 use Rattle.classfile_read.specs.ClassReading.{Names}
 use Rattle.classfile_read.specs.Repeats.{RankPair, ranks_cmp, Remembers, text_or_empty}
 

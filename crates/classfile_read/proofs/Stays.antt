@@ -14,17 +14,17 @@ use Rattle.class_tree.specs.Tree.{entry_at, class_at}
 use Rattle.class_tree.specs.Trees.{Tree}
 use Rattle.class_tree.specs.PoolRules.{is_name, desc_flaw}
 use Rattle.class_tree.specs.WellFormed.{Owner, Class, Method, Field, StaticField, is_read, is_value, owner_of, has_its_body, is_version}
-use Rattle.class_reading.specs.declared.fault.ReadClassFault.{ReadClassFault}
-use Rattle.class_reading.specs.declared.fault.ReadClassFault.TheVariants.{Magic, Version, Truncated, Trailing, BadIndex, BadText, BadMember, Unsupported, Duplicate}
-use Rattle.class_reading.specs.Reading.{Checked, offset}
-use Rattle.pool_read.specs.PoolReading.{text_fault}
-use Rattle.code_read.specs.CodeReading.{code}
+use Rattle.classfile_items.specs.declared.fault.ReadClassFault.{ReadClassFault}
+use Rattle.classfile_items.specs.declared.fault.ReadClassFault.TheVariants.{Magic, Version, Truncated, Trailing, BadIndex, BadText, BadMember, Unsupported, Duplicate}
+use Rattle.classfile_items.specs.Reading.{Checked, offset}
+use Rattle.classfile_pool.specs.PoolReading.{text_fault}
+use Rattle.classfile_code.specs.CodeReading.{code}
 use Rattle.classfile_read.specs.ClassReading.{raw_attr, body, constant, owned, attr_at, name_at, desc_at, flags_at, Names, is_among, member, members_from, members, plain_fault, plain_class, is_magic, magic, version, finished, class_from, class_of}
 use Rattle.classfile_read.specs.ClassReading as of
 use Rattle.classfile_read.specs.Lawful.{Spells, FirstFault}
-use Rattle.class_reading.proofs.Stays.{Stays, with, value, refused, chain, on_test, on_provided, on_faultless, offset_same, u2_stays, u4_stays, counted_stays, text_index_stays, kept_stays, measured_stays}
-use Rattle.pool_read.proofs.Stays.{pool_stays}
-use Rattle.code_read.proofs.Stays.{code_stays}
+use Rattle.classfile_items.proofs.Stays.{Stays, with, value, refused, chain, on_test, on_provided, on_faultless, offset_same, u2_stays, u4_stays, counted_stays, text_index_stays, kept_stays, measured_stays}
+use Rattle.classfile_pool.proofs.Stays.{pool_stays}
+use Rattle.classfile_code.proofs.Stays.{code_stays}
 use Rattle.classfile_read.proofs.ClassLaws.{class_sound, class_complete}
 
 module _ (end : ℕ) (more : List ℕ) where

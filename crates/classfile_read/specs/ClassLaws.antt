@@ -5,8 +5,8 @@ use Rattle.class_tree.specs.Ranges.{are_bytes}
 use Rattle.class_tree.specs.Spelling.{class_bytes}
 use Rattle.class_tree.specs.Trees.{Tree}
 use Rattle.class_tree.specs.WellFormed.{is_well_formed}
-use Rattle.class_reading.specs.declared.fault.ReadClassFault.{ReadClassFault}
-use Rattle.class_reading.specs.declared.fault.ReadClassFault.TheVariants.{Truncated, Trailing, Memory}
+use Rattle.classfile_items.specs.declared.fault.ReadClassFault.{ReadClassFault}
+use Rattle.classfile_items.specs.declared.fault.ReadClassFault.TheVariants.{Truncated, Trailing, Memory}
 use Rattle.classfile_read.specs.ClassReading.{class_of}
 use Rattle.classfile_read.specs.Lawful.{Spells, FirstFault}
 

@@ -13,11 +13,11 @@ use Rattle.class_tree.specs.Tree.{entry_at, class_at}
 use Rattle.class_tree.specs.Trees.{Tree}
 use Rattle.class_tree.specs.PoolRules.{is_name, desc_flaw}
 use Rattle.class_tree.specs.WellFormed.{Owner, Class, Method, Field, StaticField, is_read, is_value, owner_of, has_its_body, is_version}
-use Rattle.class_reading.specs.declared.fault.ReadClassFault.TheVariants.{Magic, Version, Trailing, BadIndex, BadText, BadMember, Unsupported, Duplicate}
-use Rattle.class_reading.specs.Reading.{Found, Checked, ◌>>=◌, FaultOf, unless, faultless, provided, offset, u2, u4, counted}
-use Rattle.pool_read.specs.PoolReading.{text_fault, pool_at}
-use Rattle.code_read.specs.CodeReading.{code}
-use Rattle.class_reading.specs.Contents.{text_index, kept, measured}
+use Rattle.classfile_items.specs.declared.fault.ReadClassFault.TheVariants.{Magic, Version, Trailing, BadIndex, BadText, BadMember, Unsupported, Duplicate}
+use Rattle.classfile_items.specs.Reading.{Found, Checked, ◌>>=◌, FaultOf, unless, faultless, provided, offset, u2, u4, counted}
+use Rattle.classfile_pool.specs.PoolReading.{text_fault, pool_at}
+use Rattle.classfile_code.specs.CodeReading.{code}
+use Rattle.classfile_items.specs.Contents.{text_index, kept, measured}
 use Rattle.class_tree.specs.declared.members.MemberKind.{MemberKind}
 use Rattle.class_tree.specs.declared.members.MemberKind.TheVariants as kinds
 

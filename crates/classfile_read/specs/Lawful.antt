@@ -3,8 +3,8 @@ use Rattle.std.specs.Prelude.{◌≡◌, ◌≢◌, ◌⊎◌, ℕ, true, List, 
 use Rattle.class_tree.specs.Trees.{Tree}
 use Rattle.class_tree.specs.Spelling.{class_bytes}
 use Rattle.class_tree.specs.WellFormed.{is_well_formed}
-use Rattle.class_reading.specs.declared.fault.ReadClassFault.{ReadClassFault}
-use Rattle.class_reading.specs.declared.fault.ReadClassFault.TheVariants.{Memory}
+use Rattle.classfile_items.specs.declared.fault.ReadClassFault.{ReadClassFault}
+use Rattle.classfile_items.specs.declared.fault.ReadClassFault.TheVariants.{Memory}
 use Rattle.classfile_read.specs.ClassReading.{class_of}
 
 -- The bytes are the class file of this tree, which has a superclass: one without is no file that is read.

@@ -7,7 +7,7 @@ use Rattle.jv_names.specs.Names.{Name}
 use Rattle.class_tree.specs.declared.pool.Const.{Const}
 use Rattle.class_tree.specs.declared.members.Member.{Member}
 use Rattle.class_tree.specs.Tree.{text_at}
-use Rattle.pool_read.specs.Ranks.{rank_of}
+use Rattle.classfile_pool.specs.Ranks.{rank_of}
 use Rattle.classfile_read.specs.ClassReading.{Names, is_among}
 
 -- numbers that stand for a name and a descriptor

@@ -1,14 +1,14 @@
 ghost use Rattle.std.specs.Prelude.{◌≡◌, option_copied};
 ghost use Rattle.class_tree.specs.WellFormed.{is_value};
-ghost use Rattle.class_reading.specs.Reading.{Mirrors, Reads};
+ghost use Rattle.classfile_items.specs.Reading.{Mirrors, Reads};
 ghost use Rattle.classfile_read.specs.ClassReading.{raw_attr, body, value, constant, attr_at};
 ghost use Rattle.classfile_read.specs.Owners.{owner_seen};
 
-use class_reading::{ReadClassFault, ReadItem, of_length, offset, raw, text_index, u2, u4};
 use class_tree::{Attr, Const};
-use code_read::code;
+use classfile_code::code;
+use classfile_items::{ReadClassFault, ReadItem, of_length, offset, raw, text_index, u2, u4};
+use classfile_pool::Pool;
 use jv_names::Units;
-use pool_read::Pool;
 use sqlite_items::Items;
 use std::alloc::Global;
 

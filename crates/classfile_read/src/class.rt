@@ -1,16 +1,16 @@
 ghost use Rattle.std.specs.Prelude.{◌≡◌, ℕ, List, IfOk, IfErr};
 ghost use Rattle.class_tree.specs.Trees.{Tree};
-ghost use Rattle.class_reading.specs.declared.fault.ReadClassFault.{ReadClassFault};
+ghost use Rattle.classfile_items.specs.declared.fault.ReadClassFault.{ReadClassFault};
 ghost use Rattle.classfile_read.specs.Lawful.{Spells, Gives, FirstFault, Refuses};
-ghost use Rattle.class_reading.specs.Reading.{Mirrors, Tells, Reads};
+ghost use Rattle.classfile_items.specs.Reading.{Mirrors, Tells, Reads};
 ghost use Rattle.classfile_read.specs.ClassReading.{plain_class, magic, version, finished, class_from, class_of};
 ghost use Rattle.classfile_read.specs.ClassTree.{tree};
 
 use crate::attrs::{AttrReader, Owner};
 use crate::members::{MemberReader, members};
-use class_reading::{ReadClassFault, ReadItem, counted, offset, u2, u4};
 use class_tree::{Attr, ClassFile, Const, Flags, Member, MemberKind};
-use pool_read::{Pool, pool_at};
+use classfile_items::{ReadClassFault, ReadItem, counted, offset, u2, u4};
+use classfile_pool::{Pool, pool_at};
 use sqlite_items::Items;
 use std::alloc::Global;
 

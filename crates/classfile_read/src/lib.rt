@@ -9,5 +9,5 @@ mod members;
 mod tests;
 
 pub use class::read_class;
-pub use class_reading::ReadClassFault;
+pub use classfile_items::ReadClassFault;
 pub use laws::class_file_laws;

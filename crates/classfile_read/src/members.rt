@@ -2,16 +2,16 @@ ghost use Rattle.std.specs.Prelude.{◌≡◌, [], ◌∷◌, IfOk, IsSome, not,
 ghost use Rattle.class_tree.specs.Flags.{has_flag};
 ghost use Rattle.class_tree.specs.Tree.{text_at};
 ghost use Rattle.class_tree.specs.WellFormed.{owner_of, is_body, has_its_body};
-ghost use Rattle.class_reading.specs.Reading.{Mirrors, Reads};
+ghost use Rattle.classfile_items.specs.Reading.{Mirrors, Reads};
 ghost use Rattle.classfile_read.specs.ClassReading.{flags_at, name_at, desc_at, is_among, member, members_from, members};
 ghost use Rattle.classfile_read.specs.Owners.{owner_seen};
 ghost use Rattle.classfile_read.specs.Repeats.{Remembers, OfNames, names_at, names_of};
 
 use crate::attrs::{AttrReader, Owner};
-use class_reading::{ReadClassFault, counted, offset, text_index, u2};
 use class_tree::{Attr, Flag, Flags, Member, MemberKind};
+use classfile_items::{ReadClassFault, counted, offset, text_index, u2};
+use classfile_pool::Pool;
 use jv_names::{DescFlaw, Units};
-use pool_read::Pool;
 use sqlite_items::Items;
 use std::alloc::{AllocError, Global};
 use std::collections::BTreeSet;

@@ -13,7 +13,7 @@ use Rattle.jv_names.specs.DescriptorReading.{class_end, dimensions, split_class,
 use Rattle.jv_names.specs.DescriptorFlaws.{read_field, read_result, read_method, field_flaw, method_flaw}
 use Rattle.class_code.specs.FormSearch.{form_at}
 use Rattle.class_tree.specs.Spelling as bytes_of
-use Rattle.class_reading.specs.Reading.{u1, u2, u4, raw, many, counted}
+use Rattle.classfile_items.specs.Reading.{u1, u2, u4, raw, many, counted}
 use Rattle.first_form.specs.ClassFiles.{MainClass, spelling, tree_of}
 use Rattle.first_form.specs.Reading.{class_of, name_and_code, after, counted_at, number_at}
 use Rattle.report_text.specs.Texts.{report_text}

@@ -4,10 +4,10 @@ use Rattle.ti_ids.specs.declared.limits.Limits.{Limits}
 use Rattle.ti_ids.specs.declared.actor.End.{End}
 use Rattle.jv_names.specs.Names.{is_class_name}
 use Rattle.class_tree.specs.Trees.{Tree}
-use Rattle.class_reading.specs.declared.fault.ReadClassFault.{ReadClassFault}
-use Rattle.class_reading.specs.declared.fault.ReadClassFault.TheVariants.{Unsupported}
-use Rattle.class_reading.specs.FaultTexts.{fault_text}
-use Rattle.class_reading.specs.Reading.{Checked}
+use Rattle.classfile_items.specs.declared.fault.ReadClassFault.{ReadClassFault}
+use Rattle.classfile_items.specs.declared.fault.ReadClassFault.TheVariants.{Unsupported}
+use Rattle.classfile_items.specs.FaultTexts.{fault_text}
+use Rattle.classfile_items.specs.Reading.{Checked}
 use Rattle.classfile_read.specs.ClassReading as grammar
 use Rattle.first_form.specs.ClassFiles.{MainClass}
 use Rattle.first_form.specs.Reading as form

@@ -11,8 +11,8 @@ use Rattle.jv_names.specs.DescriptorReading.{class_end, dimensions, split_class,
 use Rattle.jv_names.specs.DescriptorFlaws.{read_field, read_result, read_method, field_flaw, method_flaw}
 use Rattle.class_code.specs.FormSearch.{form_at}
 use Rattle.class_tree.specs.Spelling as bytes_of
-use Rattle.class_reading.specs.Reading.{u1, u2, u4, s4, u8, s8, raw, many, counted}
-use Rattle.code_read.specs.FrameReading.{type_at, frame_at}
+use Rattle.classfile_items.specs.Reading.{u1, u2, u4, s4, u8, s8, raw, many, counted}
+use Rattle.classfile_code.specs.FrameReading.{type_at, frame_at}
 use Rattle.link_versions.specs.Classes.{first_version, version_at, version_count, class_has}
 use Rattle.link_versions.specs.Members.{declared_field, declared_method, method_at, method_name, method_desc, method_has, declared_virtual}
 use Rattle.link_versions.specs.Orders.{lookup_order, superclasses}

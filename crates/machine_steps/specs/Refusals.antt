@@ -1,8 +1,8 @@
 -- The refusals of words and files, each with its place, and their lines.
 use Rattle.std.specs.Prelude.{ℕ, List, ◌∷◌, ◌++◌, codes, decimal}
 use Rattle.jv_names.specs.Names.{Name, printed}
-use Rattle.class_reading.specs.declared.fault.ReadClassFault.{ReadClassFault}
-use Rattle.class_reading.specs.FaultTexts.{fault_text}
+use Rattle.classfile_items.specs.declared.fault.ReadClassFault.{ReadClassFault}
+use Rattle.classfile_items.specs.FaultTexts.{fault_text}
 use Rattle.report_text.specs.Texts.{line}
 
 -- ---- limits

@@ -8,8 +8,8 @@ use Rattle.jv_names.specs.Names.{Name}
 use Rattle.class_tree.specs.Trees.{Tree}
 use Rattle.class_tree.specs.Tree.{class_at}
 use Rattle.class_tree.specs.Spelling.{pool_bytes}
-use Rattle.class_reading.specs.declared.fault.ReadClassFault.TheVariants.{Duplicate}
-use Rattle.class_reading.specs.Reading.{Checked}
+use Rattle.classfile_items.specs.declared.fault.ReadClassFault.TheVariants.{Duplicate}
+use Rattle.classfile_items.specs.Reading.{Checked}
 use Rattle.classfile_read.specs.ClassReading.{class_of}
 use Rattle.base_set.specs.BaseSet.{is_base}
 use Rattle.report_text.specs.Stated.{stated}

@@ -4,7 +4,7 @@ use Rattle.std.specs.Prelude.{IsTrue, IsOk}
 use Rattle.std.specs.Str.{bytes_eq}
 use Rattle.std.proofs.lemmas.Slice.Eq.{bytes_eq-Decides}
 use Rattle.class_tree.specs.Trees.{Tree}
-use Rattle.class_reading.specs.Reading.{Checked}
+use Rattle.classfile_items.specs.Reading.{Checked}
 use Rattle.first_form.specs.ClassFiles.{MainClass}
 use Rattle.first_form.specs.Reading.{class_of}
 use Rattle.machine_model.specs.Results.{Refused, BadClass, result_of_class, result_of_first, not_yet}

@@ -2,8 +2,8 @@
 use Rattle.std.specs.Prelude.{◌≡◌, ◌≢◌, ℕ, List, Option, Ok, Err, IsOk}
 use Rattle.std.specs.Prelude as std
 use Rattle.class_tree.specs.Trees.{Tree}
-use Rattle.class_reading.specs.declared.fault.ReadClassFault.TheVariants.{Memory}
-use Rattle.class_reading.specs.Reading.{Checked}
+use Rattle.classfile_items.specs.declared.fault.ReadClassFault.TheVariants.{Memory}
+use Rattle.classfile_items.specs.Reading.{Checked}
 use Rattle.machine_model.specs.Jobs.{Job}
 use Rattle.machine_model.specs.Results as results
 use Rattle.machine_model.specs.Results.{Result, Refused, Accepted}

@@ -2,8 +2,8 @@
 use Rattle.std.specs.Prelude.{Bool, ◌&&◌, bytes_eq, Option, Some}
 use Rattle.ti_ids.specs.Maybe.{◌>>=◌}
 use Rattle.jv_names.specs.Names.{Name}
-use Rattle.descriptor_types.specs.declared.method.MethodRefs.{MethodRefs}
-use Rattle.descriptor_types.specs.Methods.{method_seen as vtypes_seen}
+use Rattle.type_descriptors.specs.declared.method.MethodRefs.{MethodRefs}
+use Rattle.type_descriptors.specs.Methods.{method_seen as vtypes_seen}
 use Rattle.type_frames.specs.declared.seen.VTypeRef.{VTypeRef}
 use Rattle.type_frames.specs.declared.vtype.VType.{VType}
 use Rattle.type_frames.specs.Types.{is_uninit_this}

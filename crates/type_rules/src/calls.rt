@@ -8,16 +8,16 @@ ghost use Rattle.type_frames.specs.Seen.{name_seen, type_seen};
 ghost use Rattle.type_frames.specs.Environments.{method_at as method_named};
 ghost use Rattle.type_frames.specs.RulesOfCalls.{is_init_name as names_init, is_special as names_special, is_parent as names_parent, called as called_by, arguments, results, argument_words, named_method as method_of, plain_method as plain_method_of, invoke_static_rule, invoke_virtual_rule, invoke_interface_rule, invoke_super_rule, initialized as type_initialized, invoke_init_rule, invoke_special_rule};
 ghost use Rattle.type_rules.specs.Methods.{env_of};
-ghost use Rattle.descriptor_types.specs.Methods.{method_seen as vtypes_seen};
+ghost use Rattle.type_descriptors.specs.Methods.{method_seen as vtypes_seen};
 ghost use Rattle.type_rules.specs.Named.{reference_seen, member_seen, method_seen, called_of_both};
 ghost use Rattle.type_states.specs.Answers.{Leaves, Names};
 
 use crate::Method;
 use crate::fields::{MemberRef, reference_of};
 use class_tree::{ClassFile, Const};
-use descriptor_types::{MethodRefs, method_refs};
 use jv_names::Units;
 use std::alloc::Global;
+use type_descriptors::{MethodRefs, method_refs};
 use type_frames::{ClassName, Hierarchy, VTypeRef, stands_for};
 use type_states::{State, Stop, is_long};
 

@@ -11,8 +11,8 @@ ghost use Rattle.type_states.specs.Answers.{Leaves, Names};
 use crate::Method;
 use crate::numbers::moved;
 use class_tree::{ClassFile, Const};
-use descriptor_types::field_ref_checked;
 use jv_names::Units;
+use type_descriptors::field_ref_checked;
 use type_frames::{ClassName, VTypeRef, stands_for};
 use type_states::{State, Stop};
 

@@ -13,9 +13,9 @@ ghost use Rattle.type_verify.specs.Walking.{are_handled as all_handle, are_accep
 use crate::flow::falls_through;
 use class_code::{Instr, LookupSwitch, TableSwitch};
 use class_tree::Handler;
-use handler_ranges::Covering;
 use std::alloc::Global;
 use type_frames::{ClassName, VTypeRef, stands_for};
+use type_handlers::Covering;
 use type_rules::{Method, rule};
 use type_states::{StackMap, State, Stop};
 

@@ -9,8 +9,8 @@ ghost use Rattle.type_verify.specs.Outcomes.{IsDecided};
 
 use crate::checker::Checker;
 use class_code::Instr;
-use handler_ranges::Covering;
 use std::alloc::{AllocError, Global};
+use type_handlers::Covering;
 use type_states::{State, Stop};
 
 /// Why a method's code has no type states for all its instructions.

@@ -4,7 +4,7 @@ use Rattle.type_frames.specs.Assignable.{is_assignable}
 use Rattle.type_frames.specs.States.{State, top_if, all_taken}
 use Rattle.type_frames.specs.RulesOfCalls.{is_any, arguments}
 use Rattle.type_frames.specs.Seen.{type_seen}
-use Rattle.descriptor_types.specs.Methods.{method_seen}
+use Rattle.type_descriptors.specs.Methods.{method_seen}
 use Rattle.type_states.specs.Answers.{Leaves}
 use Rattle.type_rules.specs.Methods.{env_of}
 use Rattle.type_rules.proofs.Calling.{both_done}

@@ -1,6 +1,6 @@
 use Rattle.std.proofs.Common.{◌∙◌, refl, ap, arith}
 use Rattle.std.proofs.lemmas.Option.{slice_get_read}
-use Rattle.handler_ranges.specs.Coverage.{Coverage}
+use Rattle.type_handlers.specs.Coverage.{Coverage}
 use Rattle.type_verify.specs.Checkers.{checked_of}
 use Rattle.type_verify.proofs.Offsets.{reached_later}
 use Rattle.type_verify.proofs.Reached.{walk_more, walk_offends}

@@ -3,8 +3,8 @@ use Rattle.std.specs.Prelude.{◌&&◌}
 use Rattle.std.specs.List.{list_all}
 use Rattle.std.proofs.lemmas.List.Folds.{list_all_more, list_all_at}
 use Rattle.std.proofs.lemmas.List.{take_all}
-use Rattle.handler_ranges.specs.Coverage.{passes_at, CoversAt}
-use Rattle.handler_ranges.proofs.Places.{list_all-covering, passes_at-get_or}
+use Rattle.type_handlers.specs.Coverage.{passes_at, CoversAt}
+use Rattle.type_handlers.proofs.Places.{list_all-covering, passes_at-get_or}
 use Rattle.type_frames.specs.TypeChecks.{is_handled}
 use Rattle.type_verify.specs.Checkers.{checked_of}
 use Rattle.type_verify.proofs.checker.Checker.are_handled.Goals as goal

@@ -1,6 +1,6 @@
 use Rattle.std.proofs.Common.{◌≡◌, true, take}
 use Rattle.std.specs.List.{list_all}
-use Rattle.handler_ranges.specs.Coverage.{passes_at}
+use Rattle.type_handlers.specs.Coverage.{passes_at}
 use Rattle.type_frames.specs.TypeChecks.{is_handled}
 use Rattle.type_verify.specs.Checkers.{checked_of}
 use Rattle.type_verify.proofs.checker.Checker.are_handled.Given as goal

@@ -1,8 +1,0 @@
-use Rattle.code_read.proofs.CodeFaults.{code_fault_shows, only_code_fault}
-use Rattle.code_read.proofs.laws.code_laws.Goals as goal
-
-pub returns-clause-shows : goal.returns-clause-shows
-returns-clause-shows c = code_fault_shows
-
-pub returns-clause-only : goal.returns-clause-only
-returns-clause-only c = only_code_fault

@@ -1,7 +1,0 @@
-use Rattle.std.proofs.Common.{◌≡◌, take}
-use Rattle.std.specs.Prelude.{map}
-use Rattle.pool_read.specs.TextRoles.{roles_at}
-use Rattle.pool_read.proofs.roles.all_roles.Given as goal
-
-abbrev pub invariant-loop-entry : goal.invariant-loop-entry
-invariant-loop-entry l = l.roles.items ≡ map roles_at (take l.entry-index l.entries)
