@@ -6,8 +6,6 @@ mod entries;
 mod members;
 mod names;
 mod table;
-#[cfg(test)]
-mod tests;
 
 pub use classes::base_classes;
 pub use names::is_base;

@@ -22,7 +22,5 @@ mod numbers;
 mod rearranging;
 mod step;
 mod switches;
-#[cfg(test)]
-mod tests;
 
 pub use step::{fits, is_local, local_step};

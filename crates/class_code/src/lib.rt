@@ -41,6 +41,3 @@ pub use lengths::length_at;
 pub use pool::{PoolUse, pool_use_at};
 pub use reading::instr_at;
 pub use targets::{begins_at, first_astray};
-
-#[cfg(test)]
-mod tests;

@@ -10,8 +10,6 @@ mod copies;
 mod frames;
 mod members;
 mod pool;
-#[cfg(test)]
-mod tests;
 
 pub use access::{Flag, Flags};
 pub use body::{Code, CodeAttr, Handler};

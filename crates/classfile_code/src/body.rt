@@ -76,6 +76,3 @@ pub fn code<'a>(
     };
     Ok((code, rest))
 }
-
-#[cfg(test)]
-mod tests;

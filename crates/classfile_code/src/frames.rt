@@ -267,6 +267,3 @@ fn frame_at<'a>(
     let (tag, rest) = u1(end, bytes)?;
     tagged_frame(alloc, pool, end, offset(end, bytes), tag, rest)
 }
-
-#[cfg(test)]
-mod tests;

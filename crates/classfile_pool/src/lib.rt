@@ -8,8 +8,6 @@ mod pool;
 mod ranks;
 mod references;
 mod roles;
-#[cfg(test)]
-mod tests;
 mod text;
 
 pub use laws::text_laws;

@@ -5,8 +5,6 @@ mod attrs;
 mod class;
 mod laws;
 mod members;
-#[cfg(test)]
-mod tests;
 
 pub use class::read_class;
 pub use classfile_items::ReadClassFault;

@@ -7,8 +7,6 @@ mod item;
 mod members;
 mod number;
 mod pool;
-#[cfg(test)]
-mod tests;
 mod write;
 
 pub use write::write_class;

@@ -6,8 +6,6 @@ mod bytes;
 mod class_file;
 mod listing;
 mod read;
-#[cfg(test)]
-mod tests;
 mod type_check;
 
 pub use class_file::ClassFile;

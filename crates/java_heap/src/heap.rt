@@ -2,8 +2,6 @@ ghost use Rattle.std.specs.Prelude.{◌≡◌, length};
 
 mod access;
 mod allocation;
-#[cfg(test)]
-mod tests;
 mod unique;
 
 use crate::Object;

@@ -80,30 +80,3 @@ pub fn is_class_name(text: &[u8]) -> bool
 {
     has_class_form(text)
 }
-
-#[cfg(test)]
-mod tests {
-    use super::*;
-
-    /// Names that javac writes into class files, and texts that JVM specification 4.2.1 refuses.
-    #[test]
-    fn names_classes(rt: HostRuntime) {
-        let cases = [
-            ("Add", true),
-            ("a/B", true),
-            ("java/lang/Object", true),
-            ("a/B$1", true),
-            ("package-info", true),
-            ("", false),
-            ("a//b", false),
-            ("/a", false),
-            ("a/", false),
-            ("a.b", false),
-            ("[I", false),
-            ("La;", false),
-        ];
-        for (text, wanted) in cases {
-            assert_eq!(rt; is_class_name(text.as_bytes()), wanted, "at {text}");
-        }
-    }
-}

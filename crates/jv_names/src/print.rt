@@ -54,28 +54,3 @@ pub fn printed(alloc: Global, name: &Units) -> Result<Vec<u8>, AllocError>
     }
     Ok(text)
 }
-
-#[cfg(test)]
-mod tests {
-    use super::*;
-
-    #[test]
-    fn prints_units(rt: HostRuntime) -> Result<(), AllocError> {
-        let alloc = rt.alloc();
-        let cases = [
-            (0x41, "A"),
-            (0x20, "\\u0020"),
-            (0x5c, "\\u005c"),
-            (0x7e, "~"),
-            (0x7f, "\\u007f"),
-            (0xe9, "\\u00e9"),
-            (0xd83d, "\\ud83d"),
-        ];
-        for (unit, wanted) in cases {
-            let name = Units::new(vec![in alloc; unit]?);
-            let text = printed(alloc, &name)?;
-            assert_eq!(rt; text.as_slice(), wanted.as_bytes(), "at {unit}");
-        }
-        Ok(())
-    }
-}

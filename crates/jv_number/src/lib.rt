@@ -13,8 +13,6 @@ mod binary;
 mod comparison;
 mod int;
 mod long;
-#[cfg(test)]
-mod tests;
 mod unary;
 
 pub use binary::{Zero, arith};

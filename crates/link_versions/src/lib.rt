@@ -12,8 +12,6 @@ mod method;
 mod order;
 mod subtype;
 mod table;
-#[cfg(test)]
-mod tests;
 mod version;
 mod versions;
 

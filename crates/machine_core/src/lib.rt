@@ -6,8 +6,6 @@ mod job;
 mod machine;
 mod operands;
 mod parts;
-#[cfg(test)]
-mod tests;
 mod thread;
 
 pub use job::Job;

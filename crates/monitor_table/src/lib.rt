@@ -4,8 +4,6 @@
 
 mod monitor;
 mod table;
-#[cfg(test)]
-mod tests;
 
 pub use monitor::Waiting;
 pub use table::{Entry, MonitorFault, Monitors};

@@ -45,22 +45,3 @@ fn join(runs: &mut Vec<Run>, actor: Actor) -> Result<(), AllocError>
         }
     }
 }
-
-#[cfg(test)]
-mod tests {
-    use super::*;
-    use ti_ids::ThreadNo;
-
-    #[test]
-    fn joins_steps_of_one_actor(rt: HostRuntime) -> Result<(), AllocError> {
-        let vm = Actor::Vm;
-        let first = Actor::Thread(ThreadNo(1));
-        let runs = runs_of(rt.alloc(), &[vm, vm, first, first, first, vm])?.into_vec();
-        let wanted = [(vm, 2), (first, 3), (vm, 1)];
-        assert_eq!(rt; runs.len(), wanted.len());
-        for (run, (actor, count)) in runs.iter().zip(wanted) {
-            assert_eq!(rt; *run, Run { actor, count });
-        }
-        Ok(())
-    }
-}

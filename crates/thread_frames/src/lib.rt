@@ -21,8 +21,6 @@ mod frame;
 mod laws;
 mod operands;
 mod stacks;
-#[cfg(test)]
-mod tests;
 mod thread_stack;
 
 pub use fault::FrameFault;

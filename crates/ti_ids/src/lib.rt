@@ -5,8 +5,6 @@ mod actor;
 mod limits;
 mod number;
 mod state;
-#[cfg(test)]
-mod tests;
 mod value;
 
 pub use actor::{Actor, End};

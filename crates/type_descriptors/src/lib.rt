@@ -5,8 +5,6 @@
 mod field;
 mod first;
 mod method;
-#[cfg(test)]
-mod tests;
 mod unit;
 
 pub use field::{field_ref, field_ref_checked};

@@ -16,8 +16,6 @@ mod known;
 mod laws;
 mod seen;
 mod stated;
-#[cfg(test)]
-mod tests;
 mod vtype;
 
 pub use assigning::{assignable, dimensions, stands_for};

@@ -5,8 +5,6 @@
 mod covering;
 mod laws;
 mod ranges;
-#[cfg(test)]
-mod tests;
 
 pub use covering::Covering;
 pub use laws::covering_laws;

@@ -14,8 +14,6 @@ mod objects;
 mod returns;
 mod rules;
 mod stack;
-#[cfg(test)]
-mod tests;
 
 pub use method::Method;
 pub use rules::rule;

@@ -11,8 +11,6 @@ mod giving;
 mod kinds;
 mod loading;
 mod locals;
-#[cfg(test)]
-mod map_tests;
 mod maps;
 mod node;
 mod nodes;
@@ -20,8 +18,6 @@ mod operands;
 mod reading;
 mod state;
 mod stop;
-#[cfg(test)]
-mod tests;
 
 pub use kinds::{is_kind, is_long, is_reference, is_word};
 pub use maps::StackMap;
