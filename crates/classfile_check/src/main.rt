@@ -19,33 +19,13 @@ mod words;
 
 use files::check_all;
 use status::Status;
-use std::alloc::{AllocError, Global};
-use std::env::{self, Env};
-use std::io::ErrorKind;
+use std::alloc::AllocError;
 use std::process::ExitCode;
-use ti_port::FileStore;
-
-/// The words behind the program's name. Where one of them is no text there are none, and so they are not accepted.
-fn read_words<R: Env + AllocGlobal>(rt: &R) -> Result<Vec<String>, AllocError> {
-    let mut words = Vec::new(rt.alloc());
-    match env::args(rt) {
-        Ok(all) => {
-            for word in all.skip(1) {
-                words.push(word)?;
-            }
-        }
-        Err(error) => {
-            if error.kind() == ErrorKind::OutOfMemory {
-                return Err(AllocError);
-            }
-        }
-    }
-    Ok(words)
-}
+use ti_port::{FileStore, program_words};
 
 fn main(rt: HostRuntime) -> ExitCode {
     let mut store = FileStore::new(&rt);
-    let status = match read_words(&rt) {
+    let status = match program_words(&rt) {
         Ok(words) => check_all(rt.alloc(), &words, &mut store, &mut rt.stdout()),
         Err(AllocError) => Status::OutOfMemory,
     };

@@ -1,6 +1,7 @@
 use super::*;
+use std::alloc::Global;
 use std::collections::BTreeMap;
-use std::env::FillError;
+use std::env::{Env, FillError};
 use std::fs;
 use std::test::Fail;
 use ti_port::{MemSink, MemStore, Store};
@@ -257,7 +258,7 @@ fn words_that_are_no_text_are_none(rt: HostRuntime) -> Result<(), Fail> {
         (Arguments(&[b"ti_host", b"run", b"\xff"]), "[]"),
         (Arguments(&[b"ti_host"]), "[]"),
     ] {
-        let words = read_words(&(arguments, alloc))?;
+        let words = program_words(&(arguments, alloc))?;
         assert_eq!(rt; format!(in alloc; "{words:?}")?.as_str(), want);
     }
     Ok(())
