@@ -1,5 +1,5 @@
 #!/bin/sh
-# Bytes a second that the built program reads and writes, over the largest class file of its data/ and over one of about a
+# Bytes a second that the built program reads and writes, over the largest class file by javac in its data/ and over one of about a
 # mebibyte, which has many methods, texts and stack maps. The time of a call with one turn is taken off. It runs outside
 # the gate, and is skipped where the program isn't built or python3 is missing.
 set -eu
@@ -15,7 +15,7 @@ if ! command -v python3 >/dev/null 2>&1; then
 fi
 folder=$(mktemp -d)
 trap 'rm -rf "$folder"' EXIT
-cp "$(ls -S "$here"/../crates/classfile_check/data/*.class | head -n 1)" "$folder/Small.class"
+cp "$here/../crates/classfile_check/data/Shape.class" "$folder/Small.class"
 cd "$folder"
 python3 "$here/large_class.py" 9800 Large.class
 

@@ -5,16 +5,8 @@
 
 mod check;
 mod files;
-#[cfg(test)]
-mod fixtures;
-#[cfg(test)]
-mod large_tests;
 mod line;
 mod status;
-#[cfg(test)]
-mod tests;
-#[cfg(test)]
-mod tree_tests;
 mod words;
 
 use files::check_all;
