@@ -1,12 +1,14 @@
 #!/bin/sh
-# Seconds that the built tests take over a method as long as one may be: 65,535 bytes, 1,000 handlers and 10,000 states of the
-# stack map. Its file is made, read and checked twice, once to its end and once up to a last instruction that fails. The time of
-# a call without a test is taken off. It runs outside the gate, and is skipped where `rt test` hasn't built the tests.
+# Seconds that the built program type_check takes over two methods as long as one may be: 65,535 bytes, 1,000 handlers and 10,000
+# states of the stack map. They are read, and checked twice each, once for their own lines and once for that of their class; one of
+# them fails at its last instruction. The time of a call without a file is taken off. It runs outside the gate, and is skipped where
+# the program isn't built.
 set -eu
 here=$(cd "$(dirname "$0")" && pwd)
-program=$here/../crates/type_verify/out/type_verify_tests
+crate=$here/../crates/type_check
+program=$crate/out/type_check
 if [ ! -x "$program" ]; then
-    echo "verifying.sh: skipped, since the tests of type_verify aren't built"
+    echo "verifying.sh: skipped, since type_check isn't built"
     exit 0
 fi
 times=100
@@ -15,8 +17,8 @@ times=100
 measure() {
     began=$(date +%s%N)
     for turn in $(seq "$times"); do
-        "$program" "$1" >/dev/null 2>&1 || {
-            echo "verifying.sh: $1 failed in turn $turn" >&2
+        "$program" "$@" >/dev/null 2>&1 || {
+            echo "verifying.sh: failed in turn $turn" >&2
             exit 1
         }
     done
@@ -24,6 +26,6 @@ measure() {
     echo $((ended - began))
 }
 
-none=$(measure --list)
-all=$(measure large_tests::goes_through_a_large_method)
-echo "two methods of 65535 bytes: $(((all - none) / times / 1000)) microseconds a time, over $times times"
+none=$(measure)
+all=$(measure "$crate/data/large.class")
+echo "two methods of 65535 bytes, checked twice: $(((all - none) / times / 1000)) microseconds a time, over $times times"
