@@ -1,0 +1,96 @@
+//! The instructions of a method's code (`class_code`).
+
+use crate::mnemonics::mnemonic;
+use crate::words::{bytes, bytes_text, or_none, put, word};
+use anyhow::{Result, ensure};
+use class_code::{
+    Instr, PoolUse, begins_at, decode, first_astray, instr_at, length_at, pool_use_at,
+};
+use std::alloc::Global;
+
+/// `decode BYTES`: each instruction's offset and name.
+pub fn list(alloc: Global, arguments: &[&str]) -> Result<String> {
+    let code = bytes(alloc, arguments)?;
+    ensure!(code.len() < 65536, "more bytes than a code has");
+    let mut text = String::new(alloc);
+    for (at, instr) in decode(alloc, &code)?.iter() {
+        let name = mnemonic(instr);
+        let part = format!(in alloc; "{at} {name}")?;
+        put(&mut text, ", ", part.as_str())?;
+    }
+    or_none(text)
+}
+
+/// `length_at OFFSET BYTES`: how long the instruction is that begins there.
+pub fn length(alloc: Global, arguments: &[&str]) -> Result<String> {
+    let at = word(arguments, 0).parse()?;
+    let code = bytes(alloc, arguments.get(1..).unwrap_or(&[]))?;
+    ensure!(code.len() < 65536, "more bytes than a code has");
+    match length_at(&code, at) {
+        Some(length) => Ok(length.to_string(alloc)?),
+        None => Ok(String::from_str(alloc, "none")?),
+    }
+}
+
+/// What an entry of the constant pool must be.
+fn use_name(used: PoolUse) -> &'static str {
+    match used {
+        PoolUse::Loadable => "loadable constant",
+        PoolUse::Long => "long",
+        PoolUse::Field => "field",
+        PoolUse::Method => "method",
+        PoolUse::MethodOrInterfaceMethod => "method or interface method",
+        PoolUse::InterfaceMethod => "interface method",
+        PoolUse::Class => "class",
+    }
+}
+
+fn use_text(alloc: Global, used: Option<(u16, PoolUse)>) -> Result<String> {
+    match used {
+        Some((index, used)) => {
+            let name = use_name(used);
+            Ok(format!(in alloc; "{index} {name}")?)
+        }
+        None => Ok(String::from_str(alloc, "none")?),
+    }
+}
+
+/// `pool_use_at BYTES`: the index into the constant pool behind an opcode, and what it must name.
+pub fn pool_use(alloc: Global, arguments: &[&str]) -> Result<String> {
+    use_text(alloc, pool_use_at(&bytes(alloc, arguments)?))
+}
+
+/// `instr_at BYTES`: the instruction at the front, what its index into the constant pool must name, and the bytes behind it.
+pub fn read_one(alloc: Global, arguments: &[&str]) -> Result<String> {
+    let bytes = bytes(alloc, arguments)?;
+    ensure!(!bytes.is_empty(), "no bytes");
+    let (instr, rest) = instr_at(alloc, 0, &bytes)?;
+    let name = mnemonic(&instr);
+    let used = use_text(alloc, instr.pool_use())?;
+    let rest = bytes_text(alloc, rest)?;
+    Ok(format!(in alloc; "{name}, pool {used}, rest {rest}")?)
+}
+
+/// The instruction at the front of the bytes, as a list of it alone.
+fn front(alloc: Global, arguments: &[&str]) -> Result<Instr> {
+    let bytes = bytes(alloc, arguments)?;
+    ensure!(!bytes.is_empty(), "no bytes");
+    let (instr, _) = instr_at(alloc, 0, &bytes)?;
+    Ok(instr)
+}
+
+/// `begins_at OFFSET BYTES`: whether the instruction at the front begins there.
+pub fn begins(alloc: Global, arguments: &[&str]) -> Result<String> {
+    let at = word(arguments, 0).parse()?;
+    let instr = front(alloc, arguments.get(1..).unwrap_or(&[]))?;
+    Ok(begins_at(&[(0, instr)], at).to_string(alloc)?)
+}
+
+/// `first_astray BYTES`: whether the instruction at the front leads elsewhere than to itself, alone in a list.
+pub fn astray(alloc: Global, arguments: &[&str]) -> Result<String> {
+    let instr = front(alloc, arguments)?;
+    match first_astray(&[(0, instr)]) {
+        Some(at) => Ok(at.to_string(alloc)?),
+        None => Ok(String::from_str(alloc, "none")?),
+    }
+}
