@@ -5,6 +5,8 @@ use Rattle.std.specs.Option.{option_and_then}
 use Rattle.std.specs.List.{AllByRecursion, list_any}
 use Rattle.std.specs.Str.{bytes_eq}
 use Rattle.std.proofs.lemmas.Bool.Decides.{nat_tests}
+use Rattle.std.proofs.lemmas.Bool.{or_parts}
+use Rattle.std.proofs.Math.Bool.{or-false}
 use Rattle.std.proofs.lemmas.Option.{none-some, cond_some, option_and_then_some}
 use Rattle.std.proofs.lemmas.Slice.Eq.{bytes_eq-Decides}
 use Rattle.jv_names.specs.declared.descriptor.FieldType.{FieldType}
@@ -100,10 +102,6 @@ pub record AreRead (text : Name) (floating : Bool) (rest : Name) : Type 0 where
 
 pub none_read : (text : Name) → AreRead text false text
 none_read text = record { types = []; named = tt; spelled = refl; is_any = refl }
-
-or-false : (a : Bool) → (a || false) ≡ a
-or-false true = refl
-or-false false = refl
 
 or-assoc : (a b c : Bool) → (a || (b || c)) ≡ ((a || b) || c)
 or-assoc true b c = refl
@@ -210,14 +208,6 @@ read_method-front text m e =
 
 -- ---- without floating point all is of the profile
 
-or-false_left : (a b : Bool) → (a || b) ≡ false → a ≡ false
-or-false_left true b h = h
-or-false_left false b h = refl
-
-or-false_right : (a b : Bool) → (a || b) ≡ false → b ≡ false
-or-false_right true b h = absurd cc
-or-false_right false b h = h
-
 kept_whole : (n : ℕ) (e : AnyElement) → is_floating_type (record { dimensions = n; element = e }) ≡ false → (f : FieldType) × (any_type f ≡ record { dimensions = n; element = e })
 kept_whole n (Kept e) h = (record { dimensions = n; element = e }, refl)
 kept_whole n Float h = absurd cc
@@ -226,8 +216,8 @@ kept_whole n Double h = absurd cc
 kept_all : (ts : List AnyType) → list_any is_floating_type ts ≡ false → (fs : List FieldType) × (map any_type fs ≡ ts)
 kept_all [] h = ([], refl)
 kept_all (t ∷ ts) h =
-    let first = kept_whole t.dimensions t.element (or-false_left (is_floating_type t) (list_any is_floating_type ts) h) in
-    let others = kept_all ts (or-false_right (is_floating_type t) (list_any is_floating_type ts) h) in
+    let first = kept_whole t.dimensions t.element (or_parts (is_floating_type t) (list_any is_floating_type ts) h).0 in
+    let others = kept_all ts (or_parts (is_floating_type t) (list_any is_floating_type ts) h).1 in
     (first.0 ∷ others.0, rw (first.1, others.1) refl)
 
 kept_result : (r : Option AnyType) → is_floating_result r ≡ false → (s : Option FieldType) × (option_map any_type s ≡ r)
@@ -236,8 +226,8 @@ kept_result (Some t) h = let kept = kept_whole t.dimensions t.element h in (Some
 
 kept_method : (m : AnyMethod) → is_floating_method m ≡ false → (k : MethodType) × (any_method k ≡ m)
 kept_method m h =
-    let parameters = kept_all m.parameters (or-false_left (list_any is_floating_type m.parameters) (is_floating_result m.result) h) in
-    let result = kept_result m.result (or-false_right (list_any is_floating_type m.parameters) (is_floating_result m.result) h) in
+    let parameters = kept_all m.parameters (or_parts (list_any is_floating_type m.parameters) (is_floating_result m.result) h).0 in
+    let result = kept_result m.result (or_parts (list_any is_floating_type m.parameters) (is_floating_result m.result) h).1 in
     (record { parameters = parameters.0; result = result.0 }, rw (parameters.1, result.1) refl)
 
 -- ---- the answers

@@ -5,6 +5,7 @@ use Rattle.std.specs.Option.{ok_or}
 use Rattle.std.specs.List.{AllByRecursion, list_any}
 use Rattle.std.proofs.lemmas.List.{append-nil, length-append}
 use Rattle.std.proofs.lemmas.Bool.{false≢true}
+use Rattle.std.proofs.Math.Bool.{or-true}
 use Rattle.std.proofs.lemmas.Grind.{flat_map-append}
 use Rattle.std.proofs.lemmas.Option.{none-some, some_pair_parts}
 use Rattle.jv_names.specs.declared.descriptor.ElementType.{ElementType}
@@ -196,10 +197,6 @@ read_method text rest tail kept r begun are is = record {
   result_named = is.named;
   spelled = begun ∙ ap {B = Name} (λ x. 40 ∷ x) (are.spelled ∙ rw (is.spelled) refl);
 }
-
-or-true : (b : Bool) → (b || true) ≡ true
-or-true true = refl
-or-true false = refl
 
 pub result_fault-method : (text rest tail : Name) (kept : Option (List FieldType)) (e : DescFault) → text ≡ 40 ∷ rest → AreParameters rest kept tail → IfFault e (ResultFault tail) → IfFault e (MethodFault text)
 result_fault-method text rest tail kept Bad begun are h = λ m is.
