@@ -1,11 +1,11 @@
 -- The instructions that change their own frame alone and throw nothing, and what each does to the frame (JVM specification
 -- 6.5).
-use Rattle.std.specs.Prelude.{ℕ, Bool, true, false, not, ℤ, pos, negsuc, ◌+ℤ◌, ◌^◌, List, [], Option, Some, None, find, nat_lt, ◌==◌, unwrap_or, IsSome, if◌then◌else◌}
-use Rattle.std.specs.Option.{option_map}
+use Rattle.std.specs.Prelude.{ℕ, Bool, true, false, not, ℤ, pos, negsuc, ◌+ℤ◌, ◌^◌, List, [], Option, Some, None, nat_lt, unwrap_or, IsSome, if◌then◌else◌}
 use Rattle.ti_ids.specs.Maybe.{◌>>=◌}
 use Rattle.ti_ids.specs.declared.value.Value.{Value}
 use Rattle.ti_ids.specs.declared.value.Value.TheVariants as value
 use Rattle.class_code.specs.Codes.{slot_place}
+pub use Rattle.class_code.specs.Lookups.{instr_at, following}
 use Rattle.class_code.specs.declared.instr.Simple.{Simple}
 use Rattle.class_code.specs.declared.instr.Simple.TheVariants as simple
 use Rattle.class_code.specs.declared.instr.Instr.{Instr}
@@ -103,14 +103,6 @@ change_of (instr.LookupSwitch l) locals stack = lookup_switched l stack
 change_of i locals stack = None
 
 -- ---- code, as a list of instructions that each have their offset
-
--- the instruction at an offset
-abbrev pub instr_at : List (ℕ × Instr) → ℕ → Option Instr
-instr_at code pc = option_map (λ p. p.1) (find (λ p. p.0 == pc) code)
-
--- the offset of the instruction that follows the one at this offset
-abbrev pub following : List (ℕ × Instr) → ℕ → Option ℕ
-following code pc = option_map (λ p. p.0) (find (λ p. nat_lt pc p.0) code)
 
 -- the number as an offset: a code has less than 2 ^ 16 bytes (4.7.3)
 abbrev pub offset : ℤ → Option ℕ

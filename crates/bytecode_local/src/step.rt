@@ -1,10 +1,10 @@
-ghost use Rattle.std.specs.Prelude.{◌≡◌, ◌↔◌, IsTrue, Some, None, IfSome, IfNone, OnSome, IsSomeAnd, ◌+ℤ◌, pos, slice_get};
+ghost use Rattle.std.specs.Prelude.{◌≡◌, ◌↔◌, IsTrue, Some, None, IfSome, OnSome, IsSomeAnd, ◌+ℤ◌, pos};
 ghost use Rattle.std.specs.Bool.{OnTrue};
-ghost use Rattle.std.specs.Option.{option_map};
 ghost use Rattle.class_code.specs.Codes.{slot_place};
 ghost use Rattle.class_code.specs.Listing.{IsRising};
+ghost use Rattle.class_code.specs.Lookups.{instr_at};
 ghost use Rattle.bytecode_local.specs.Changes.{takes, changed};
-ghost use Rattle.bytecode_local.specs.Effect.{local_simple, local, simple_change, change_of, instr_at, following, offset, goes_on_at, planned, effect, Fits};
+ghost use Rattle.bytecode_local.specs.Effect.{local_simple, local, simple_change, change_of, offset, goes_on_at, planned, effect, Fits};
 
 use crate::branches::branch;
 use crate::change::{Change, apply, takes};
@@ -13,7 +13,7 @@ use crate::locals::{increment_change, load_change, store_change};
 use crate::numbers::{compare_longs, compute, is_division, make_conversion};
 use crate::rearranging::rearrange;
 use crate::switches::{switch_by_lookup, switch_by_table};
-use class_code::{Instr, Simple, Slot};
+use class_code::{Instr, Simple, Slot, entry_at};
 use sqlite_items::Items;
 use thread_frames::{Frame, Operands};
 use ti_ids::Value;
@@ -104,26 +104,6 @@ fn change_of(instr: &Instr, locals: &Items<Value>, stack: &Operands) -> Option<C
         Instr::TableSwitch(table) => switch_by_table(table, stack),
         Instr::LookupSwitch(lookup) => switch_by_lookup(lookup, stack),
         _ => None,
-    }
-}
-
-/// The offset of the instruction at this place of the list.
-fn offset_of(code: &[(u16, Instr)], place: usize) -> Option<u16>
-    ensures { result ≡ option_map (λ p. p.0) (slice_get code.now place) }
-{
-    Some(code.get(place)?.0)
-}
-
-/// The instruction at this offset, and the offset of the one that follows. By halving.
-fn entry_at(code: &[(u16, Instr)], pc: u16) -> Option<(&Instr, Option<u16>)>
-    requires { IsRising code.now }
-    ensures none { IfNone result (instr_at code.now pc ≡ None) }
-    ensures instr { IfSome result (λ e. instr_at code.now pc ≡ Some e.0.now) }
-    ensures following { IfSome result (λ e. following code.now pc ≡ e.1) }
-{
-    match code.binary_search_by_key(&pc, |entry| entry.0) {
-        Ok(place) => Some((&code[place].1, offset_of(code, place + 1))),
-        Err(_) => None,
     }
 }
 

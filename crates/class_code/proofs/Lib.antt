@@ -1,6 +1,7 @@
 pub mod Loops
 pub mod Places
 pub mod Reaching
+pub mod Lookups
 pub mod FormAt
 pub mod Take
 pub mod Numbers

@@ -3,6 +3,7 @@ pub mod Codes
 pub mod Spelling
 pub mod Ranges
 pub mod Listing
+pub mod Lookups
 pub mod Forms
 pub mod Faults
 pub mod FirstFaults

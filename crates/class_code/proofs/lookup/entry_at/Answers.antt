@@ -1,8 +1,8 @@
 -- The closure gives an instruction's offset.
 use Rattle.std.proofs.Common.{rules, sym, ◌∙◌}
 use Rattle.std.proofs.lemmas.List.Sorted.{answers_always}
-use Rattle.bytecode_local.proofs.Lookups.{instr_found, following_found, none_found}
-use Rattle.bytecode_local.proofs.step.entry_at.Goals as goal
+use Rattle.class_code.proofs.Lookups.{instr_found, following_found, none_found}
+use Rattle.class_code.proofs.lookup.entry_at.Goals as goal
 
 pub returns-in-Ok-clause-instr : goal.returns-in-Ok-clause-instr
 returns-in-Ok-clause-instr c =

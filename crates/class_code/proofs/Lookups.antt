@@ -14,7 +14,7 @@ use Rattle.class_code.specs.declared.instr.Instr.{Instr}
 use Rattle.class_code.specs.declared.instr.Instr.TheVariants as instr
 use Rattle.class_code.specs.declared.instr.Simple.TheVariants as simple
 use Rattle.class_code.specs.Listing.{IsRising}
-use Rattle.bytecode_local.specs.Effect.{instr_at, following}
+use Rattle.class_code.specs.Lookups.{instr_at, following}
 
 -- each offset is below all later ones
 pub record Rise (code : List (ℕ × Instr)) : Type 0 where
