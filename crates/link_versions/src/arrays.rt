@@ -10,23 +10,12 @@ ghost use Rattle.link_versions.specs.Entries.{class_of, IsSound};
 use crate::Classes;
 use crate::class::{Element, Entry, EntryKind, InitState};
 use crate::order::{collect_order, collect_supers};
-use crate::table::OBJECT;
-use jv_names::{Desc, DescFault, ElementType, FieldType, Units, field_desc};
+use jv_names::{
+    CLONEABLE, Desc, DescFault, ElementType, FieldType, OBJECT, SERIALIZABLE, Units, field_desc,
+};
 use sqlite_items::Items;
 use std::alloc::{AllocError, Global};
 use ti_ids::ClassNo;
-
-/// The units of `java/lang/Cloneable`.
-const CLONEABLE: [u16; 19] = [
-    0x6a, 0x61, 0x76, 0x61, 0x2f, 0x6c, 0x61, 0x6e, 0x67, 0x2f, 0x43, 0x6c, 0x6f, 0x6e, 0x65, 0x61,
-    0x62, 0x6c, 0x65,
-];
-
-/// The units of `java/io/Serializable`.
-const SERIALIZABLE: [u16; 20] = [
-    0x6a, 0x61, 0x76, 0x61, 0x2f, 0x69, 0x6f, 0x2f, 0x53, 0x65, 0x72, 0x69, 0x61, 0x6c, 0x69, 0x7a,
-    0x61, 0x62, 0x6c, 0x65,
-];
 
 /// The type of which a name is the descriptor.
 fn array_type(alloc: Global, name: &Units) -> Result<FieldType, AllocError>

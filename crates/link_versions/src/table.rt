@@ -12,16 +12,11 @@ use crate::entry_table::Table;
 use crate::order::{collect_order, collect_supers};
 use crate::{LinkFault, entries, method, subtype};
 use class_tree::{ClassFile, Flag};
-use jv_names::Units;
+use jv_names::{OBJECT, Units};
 use sqlite_items::Items;
 use std::alloc::{AllocError, Global};
 use std::marker::Model;
 use ti_ids::{ClassNo, FieldNo, MethodNo, VersionNo};
-
-/// The units of `java/lang/Object`.
-pub(crate) const OBJECT: [u16; 16] = [
-    0x6a, 0x61, 0x76, 0x61, 0x2f, 0x6c, 0x61, 0x6e, 0x67, 0x2f, 0x4f, 0x62, 0x6a, 0x65, 0x63, 0x74,
-];
 
 /// The name of a file's class.
 fn own_name(alloc: Global, tree: &ClassFile) -> Result<Units, AllocError>
