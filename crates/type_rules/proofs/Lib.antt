@@ -1,5 +1,4 @@
 pub mod Tops
-pub mod Lookups
 pub mod ArrayNames
 pub mod Lengths
 pub mod Arguments

@@ -1,9 +1,8 @@
 -- How the code holds what the rules know of a method.
-use Rattle.std.specs.Prelude.{ℕ, ◌==◌, if◌then◌else◌, List, [], ◌∷◌, find, Option, Some, None, option_map, option_copied}
+use Rattle.std.specs.Prelude.{ℕ, ◌==◌, if◌then◌else◌, List, [], ◌∷◌, Option, Some, None, option_map, option_copied}
 use Rattle.std.specs.Option.{option_or}
 use Rattle.ti_ids.specs.Maybe.{◌>>=◌}
 use Rattle.jv_names.specs.Names.{Name}
-use Rattle.class_code.specs.declared.instr.Instr.{Instr}
 use Rattle.type_frames.specs.Environments.{Environment}
 use Rattle.type_frames.specs.Types.{front}
 use Rattle.type_frames.specs.States.{State, all_put}
@@ -22,10 +21,6 @@ env_of m = record {
   max_stack = m.max_stack;
   instrs = m.instrs.now;
 }
-
--- the instruction at an offset
-abbrev pub instr_found : List (ℕ × Instr) → ℕ → Option Instr
-instr_found instrs at = option_map (λ p. p.1) (find (λ p. p.0 == at) instrs)
 
 -- the class of an array's components, from behind the first unit of its descriptor
 abbrev pub component_behind : Name → Option Name

@@ -8,9 +8,10 @@ ghost use Rattle.type_rules.specs.Methods.{env_of};
 ghost use Rattle.type_states.specs.Answers.{Leaves, Gives};
 
 use crate::Method;
-use crate::names::{OBJECT, component_of, is_array, is_small_array, object};
+use crate::names::{component_of, is_array, is_small_array, object};
 use crate::numbers::moved;
 use class_code::{Element, Primitive};
+use jv_names::OBJECT;
 use type_frames::{ClassName, Hierarchy, VTypeRef, dimensions, stands_for};
 use type_states::{State, Stop};
 

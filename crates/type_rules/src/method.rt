@@ -1,9 +1,9 @@
-ghost use Rattle.std.specs.Prelude.{◌≡◌, option_copied, option_map};
+ghost use Rattle.std.specs.Prelude.{◌≡◌, option_copied};
 ghost use Rattle.class_code.specs.Listing.{IsRising};
 ghost use Rattle.type_frames.specs.Environments.{made_at};
-ghost use Rattle.type_rules.specs.Methods.{env_of, instr_found};
+ghost use Rattle.type_rules.specs.Methods.{env_of};
 
-use class_code::{Instr, PoolOp};
+use class_code::{Instr, PoolOp, entry_at};
 use class_tree::ClassFile;
 use jv_names::Units;
 use type_frames::{Hierarchy, VTypeRef};
@@ -25,23 +25,13 @@ pub struct Method<'a> {
 }
 
 impl<'a> Method<'a> {
-    /// The instruction at an offset.
-    fn instr_at(&self, at: u16) -> Option<&'a Instr>
-        requires { IsRising self.now.instrs.now }
-        ensures { option_copied result ≡ instr_found self.now.instrs.now at }
-    {
-        match self.instrs.binary_search_by_key(&at, |entry| entry.0) {
-            Ok(place) => Some(&self.instrs[place].1),
-            Err(_) => None,
-        }
-    }
-
     /// The class that the `new` at an offset makes an object of.
     pub(crate) fn made_at(&self, at: u16) -> Option<&'a Units>
         requires { IsRising self.now.instrs.now }
         ensures { option_copied result ≡ made_at (env_of self.now) at }
     {
-        match self.instr_at(at)? {
+        let (instr, _) = entry_at(self.instrs, at)?;
+        match instr {
             Instr::Pool(PoolOp::New, index) => self.tree.class_at(*index),
             _ => None,
         }

@@ -6,12 +6,8 @@ ghost use Rattle.type_frames.specs.Assignable.{object_name};
 ghost use Rattle.type_frames.specs.Seen.{name_seen, type_seen};
 ghost use Rattle.type_rules.specs.Methods.{component_behind};
 
+use jv_names::OBJECT;
 use type_frames::{ClassName, VTypeRef};
-
-/// The units of `java/lang/Object`.
-pub(crate) const OBJECT: [u16; 16] = [
-    0x6a, 0x61, 0x76, 0x61, 0x2f, 0x6c, 0x61, 0x6e, 0x67, 0x2f, 0x4f, 0x62, 0x6a, 0x65, 0x63, 0x74,
-];
 
 /// An initialized object of any class.
 pub(crate) fn object() -> VTypeRef<'static>

@@ -9,15 +9,10 @@ ghost use Rattle.type_states.specs.Answers.{Leaves};
 
 use crate::{Method, arrays, calls, constants, fields, locals, numbers, objects, returns, stack};
 use class_code::{Instr, PoolOp, Simple, Slot};
+use jv_names::THROWABLE;
 use std::alloc::Global;
 use type_frames::{ClassName, VTypeRef};
 use type_states::{State, Stop};
-
-/// The units of `java/lang/Throwable`.
-const THROWABLE: [u16; 19] = [
-    0x6a, 0x61, 0x76, 0x61, 0x2f, 0x6c, 0x61, 0x6e, 0x67, 0x2f, 0x54, 0x68, 0x72, 0x6f, 0x77, 0x61,
-    0x62, 0x6c, 0x65,
-];
 
 fn slot_place(slot: Slot) -> u16
     ensures { result ≡ place_of_slot slot }

@@ -4,7 +4,7 @@ use Rattle.std.specs.Prelude.{slice_get}
 use Rattle.std.proofs.lemmas.Option.{slice_get_within, get_or_from_slice_get}
 use Rattle.class_code.specs.declared.instr.Instr.{Instr}
 use Rattle.class_code.specs.Listing.{IsRising}
-use Rattle.type_rules.proofs.Lookups.{rises}
+use Rattle.class_code.proofs.Lookups.{rises}
 
 some_is : {A : Type 0} {x y : A} → Some x ≡ Some y → x ≡ y
 some_is e = cc

@@ -13,17 +13,12 @@ ghost use Rattle.type_verify.specs.Walking.{are_handled as all_handle, are_accep
 use crate::flow::falls_through;
 use class_code::{Instr, LookupSwitch, TableSwitch};
 use class_tree::Handler;
+use jv_names::THROWABLE;
 use std::alloc::Global;
 use type_frames::{ClassName, VTypeRef, stands_for};
 use type_handlers::Covering;
 use type_rules::{Method, rule};
 use type_states::{StackMap, State, Stop};
-
-/// The units of `java/lang/Throwable`.
-const THROWABLE: [u16; 19] = [
-    0x6a, 0x61, 0x76, 0x61, 0x2f, 0x6c, 0x61, 0x6e, 0x67, 0x2f, 0x54, 0x68, 0x72, 0x6f, 0x77, 0x61,
-    0x62, 0x6c, 0x65,
-];
 
 /// A place of code, where there can be one.
 fn offset_in_code(target: i64) -> Option<u16>
