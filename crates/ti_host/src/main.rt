@@ -2,19 +2,7 @@
 //! why there is none, goes to standard output.
 #![tactic(auto)]
 
-mod class_line;
-mod host;
-mod load;
-mod refusal;
-mod run;
-mod status;
-#[cfg(test)]
-mod tests;
-mod words;
-mod write;
-
-use host::host_one;
-use status::Status;
+use host_run::{Status, host_one};
 use std::alloc::AllocError;
 use std::process::ExitCode;
 use ti_port::{FileStore, StdSink, program_words};
