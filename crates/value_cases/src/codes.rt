@@ -1,19 +1,26 @@
 //! The instructions of a method's code (`class_code`).
 
+ghost use Rattle.std.specs.Prelude.{◌<◌, ◌^◌, length, IfOk};
+
 use crate::mnemonics::mnemonic;
 use crate::words::{bytes, bytes_text, or_none, put, word};
 use anyhow::{Result, ensure};
-use class_code::{
-    Instr, PoolUse, begins_at, decode, first_astray, instr_at, length_at, pool_use_at,
-};
+use class_code::{PoolUse, begins_at, decode, instr_at, length_at, pool_use_at};
 use std::alloc::Global;
+
+/// The bytes of a method's code.
+fn code(alloc: Global, arguments: &[&str]) -> Result<Vec<u8>>
+    ensures { IfOk result (λ code. length code.items < 2 ^ 16) }
+{
+    let code = bytes(alloc, arguments)?;
+    ensure!(code.len() < 65536, "more bytes than a code has");
+    Ok(code)
+}
 
 /// `decode BYTES`: each instruction's offset and name.
 pub fn list(alloc: Global, arguments: &[&str]) -> Result<String> {
-    let code = bytes(alloc, arguments)?;
-    ensure!(code.len() < 65536, "more bytes than a code has");
     let mut text = String::new(alloc);
-    for (at, instr) in decode(alloc, &code)?.iter() {
+    for (at, instr) in decode(alloc, &code(alloc, arguments)?)?.iter() {
         let name = mnemonic(instr);
         let part = format!(in alloc; "{at} {name}")?;
         put(&mut text, ", ", part.as_str())?;
@@ -24,8 +31,7 @@ pub fn list(alloc: Global, arguments: &[&str]) -> Result<String> {
 /// `length_at OFFSET BYTES`: how long the instruction is that begins there.
 pub fn length(alloc: Global, arguments: &[&str]) -> Result<String> {
     let at = word(arguments, 0).parse()?;
-    let code = bytes(alloc, arguments.get(1..).unwrap_or(&[]))?;
-    ensure!(code.len() < 65536, "more bytes than a code has");
+    let code = code(alloc, arguments.get(1..).unwrap_or(&[]))?;
     match length_at(&code, at) {
         Some(length) => Ok(length.to_string(alloc)?),
         None => Ok(String::from_str(alloc, "none")?),
@@ -65,32 +71,21 @@ pub fn read_one(alloc: Global, arguments: &[&str]) -> Result<String> {
     let bytes = bytes(alloc, arguments)?;
     ensure!(!bytes.is_empty(), "no bytes");
     let (instr, rest) = instr_at(alloc, 0, &bytes)?;
-    let name = mnemonic(&instr);
-    let used = use_text(alloc, instr.pool_use())?;
-    let rest = bytes_text(alloc, rest)?;
-    Ok(format!(in alloc; "{name}, pool {used}, rest {rest}")?)
+    let mut text = String::from_str(alloc, mnemonic(&instr))?;
+    put(
+        &mut text,
+        ", pool ",
+        use_text(alloc, instr.pool_use())?.as_str(),
+    )?;
+    put(&mut text, ", rest ", bytes_text(alloc, rest)?.as_str())?;
+    Ok(text)
 }
 
-/// The instruction at the front of the bytes, as a list of it alone.
-fn front(alloc: Global, arguments: &[&str]) -> Result<Instr> {
-    let bytes = bytes(alloc, arguments)?;
-    ensure!(!bytes.is_empty(), "no bytes");
-    let (instr, _) = instr_at(alloc, 0, &bytes)?;
-    Ok(instr)
-}
-
-/// `begins_at OFFSET BYTES`: whether the instruction at the front begins there.
+/// `begins_at OFFSET BYTES`: whether the instruction at the front, alone in a list, begins there.
 pub fn begins(alloc: Global, arguments: &[&str]) -> Result<String> {
     let at = word(arguments, 0).parse()?;
-    let instr = front(alloc, arguments.get(1..).unwrap_or(&[]))?;
+    let bytes = bytes(alloc, arguments.get(1..).unwrap_or(&[]))?;
+    ensure!(!bytes.is_empty(), "no bytes");
+    let (instr, _) = instr_at(alloc, 0, &bytes)?;
     Ok(begins_at(&[(0, instr)], at).to_string(alloc)?)
-}
-
-/// `first_astray BYTES`: whether the instruction at the front leads elsewhere than to itself, alone in a list.
-pub fn astray(alloc: Global, arguments: &[&str]) -> Result<String> {
-    let instr = front(alloc, arguments)?;
-    match first_astray(&[(0, instr)]) {
-        Some(at) => Ok(at.to_string(alloc)?),
-        None => Ok(String::from_str(alloc, "none")?),
-    }
 }

@@ -11,7 +11,7 @@ mod reports;
 mod texts;
 mod words;
 
-use anyhow::{Result, bail};
+use anyhow::Result;
 use std::alloc::Global;
 use std::env::{self, Env};
 use std::fs;
@@ -38,9 +38,7 @@ fn answer(alloc: Global, function: &str, arguments: &[&str]) -> Result<String> {
         "pool_use_at" => codes::pool_use(alloc, arguments),
         "instr_at" => codes::read_one(alloc, arguments),
         "begins_at" => codes::begins(alloc, arguments),
-        "first_astray" => codes::astray(alloc, arguments),
         "same_actor" => reports::compare_actors(alloc, arguments),
-        "runs_of" => reports::join_steps(alloc, arguments),
         "report" => reports::print(alloc, arguments),
         "report_with_agents" => reports::print_with_agents(alloc, arguments),
         _ => numbers::answer(alloc, function, arguments),

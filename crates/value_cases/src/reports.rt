@@ -1,6 +1,6 @@
 //! Actors (`ti_ids`), schedules and reports (`report_text`).
 
-use crate::words::{put, text, word};
+use crate::words::{text, word};
 use anyhow::{Result, bail, ensure};
 use jv_names::Units;
 use report_text::{
@@ -28,43 +28,13 @@ pub fn compare_actors(alloc: Global, arguments: &[&str]) -> Result<String> {
     Ok(left.same(right).to_string(alloc)?)
 }
 
-/// A run as reports have it.
-fn run_text(alloc: Global, run: &Run) -> Result<String> {
-    let count = run.count;
-    match run.actor {
-        Actor::Vm => Ok(format!(in alloc; "v:{count}")?),
-        Actor::Thread(ThreadNo(number)) => Ok(format!(in alloc; "t{number}:{count}")?),
-        Actor::Agent(EnvNo(number)) => Ok(format!(in alloc; "a{number}:{count}")?),
-    }
-}
-
-/// `runs_of ACTOR ..`: the runs of a schedule.
-pub fn join_steps(alloc: Global, arguments: &[&str]) -> Result<String> {
+/// Who makes each step.
+fn actors(alloc: Global, words: &[&str]) -> Result<Vec<Actor>> {
     let mut actors = Vec::new(alloc);
-    for word in arguments {
+    for word in words {
         actors.push(actor(word)?)?;
     }
-    ensure!(actors.len() < 0xffff_ffff, "too many steps");
-    let mut text = String::new(alloc);
-    for run in runs_of(alloc, &actors)?.as_slice() {
-        put(&mut text, " ", run_text(alloc, run)?.as_str())?;
-    }
-    Ok(text)
-}
-
-/// `ACTOR:STEPS ..`
-fn runs(alloc: Global, arguments: &[&str]) -> Result<Runs> {
-    let mut runs = Vec::new(alloc);
-    for word in arguments {
-        let Some((name, count)) = word.split_once(':') else {
-            bail!("not a run");
-        };
-        runs.push(Run {
-            actor: actor(name)?,
-            count: count.parse()?,
-        })?;
-    }
-    Ok(Runs::new(runs))
+    Ok(actors)
 }
 
 fn end(word: &str) -> Result<Option<End>> {
@@ -91,7 +61,7 @@ fn log(alloc: Global, name: &str, line: &str) -> Result<AgentLog, AllocError> {
     })
 }
 
-/// The report that the arguments `MAIN STEPS END ACTOR:STEPS ..` begin.
+/// The report that the arguments `MAIN END ACTOR ..` begin, where an actor stands for each step.
 fn printed(
     alloc: Global,
     arguments: &[&str],
@@ -99,11 +69,13 @@ fn printed(
     output: &str,
     agents: AgentLogs,
 ) -> Result<String> {
+    let actors = actors(alloc, arguments.get(2..).unwrap_or(&[]))?;
+    ensure!(actors.len() < 0xffff_ffff, "too many steps");
     let parts = ReportParts {
         main: text(alloc, arguments)?,
-        runs: runs(alloc, arguments.get(3..).unwrap_or(&[]))?,
-        steps: word(arguments, 1).parse()?,
-        end: end(word(arguments, 2))?,
+        runs: runs_of(alloc, &actors)?,
+        steps: actors.len() as u32,
+        end: end(word(arguments, 1))?,
         threads,
         output: bytes(alloc, output)?,
         agents,
@@ -111,14 +83,14 @@ fn printed(
     Ok(String::from_utf8(report(alloc, &parts)?)?)
 }
 
-/// `report MAIN STEPS END ACTOR:STEPS ..`: of a thread that ended, a line of output and no agents.
+/// `report MAIN END ACTOR ..`: of a thread that ended, a line of output and no agents.
 pub fn print(alloc: Global, arguments: &[&str]) -> Result<String> {
     let threads = ThreadLines::new(vec![in alloc; ThreadLine::Ended]?);
     let agents = AgentLogs::new(Vec::new(alloc));
     printed(alloc, arguments, threads, "5\n", agents)
 }
 
-/// `report_with_agents MAIN STEPS END ACTOR:STEPS ..`: of two threads that did not end well, no output and two agents.
+/// `report_with_agents MAIN END ACTOR ..`: of two threads that did not end well, no output and two agents.
 pub fn print_with_agents(alloc: Global, arguments: &[&str]) -> Result<String> {
     let class = Units::from_ascii(alloc, b"a/B c")?;
     let threads = vec![in alloc; ThreadLine::Uncaught(class), ThreadLine::Live]?;

@@ -21,9 +21,9 @@ pub fn utf8_of_units(alloc: Global, arguments: &[&str]) -> Result<String> {
 pub fn front_of_bytes(alloc: Global, arguments: &[&str]) -> Result<String> {
     let bytes = bytes(alloc, arguments)?;
     let (front, rest) = front_units(alloc, &bytes)?;
-    let front = units_text(alloc, front.as_slice())?;
-    let rest = bytes_text(alloc, rest)?;
-    Ok(format!(in alloc; "units {front}, rest {rest}")?)
+    let mut text = units_text(alloc, front.as_slice())?;
+    put(&mut text, ", then ", bytes_text(alloc, rest)?.as_str())?;
+    Ok(text)
 }
 
 /// `same TEXT TEXT`
