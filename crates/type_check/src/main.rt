@@ -21,10 +21,7 @@ use words::request_of;
 
 fn main(rt: HostRuntime) -> anyhow::Result<()> {
     let alloc = rt.alloc();
-    let mut words = Vec::new(alloc);
-    for word in env::args(&rt)?.skip(1) {
-        words.push(word)?;
-    }
+    let words: Vec<String> = env::args(&rt)?.skip(1).collect(alloc)?;
     for part in words.split(|word| word.as_str() == "--next") {
         answer(&rt, alloc, request_of(part))?;
     }
