@@ -3,14 +3,7 @@
 //! `NAME too-large` or `NAME unreadable`.
 #![tactic(auto)]
 
-mod check;
-mod files;
-mod line;
-mod status;
-mod words;
-
-use files::check_all;
-use status::Status;
+use check_run::{Status, check_all};
 use std::alloc::AllocError;
 use std::process::ExitCode;
 use ti_port::{FileStore, program_words};

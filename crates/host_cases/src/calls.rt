@@ -4,6 +4,7 @@
 use crate::devices::Faltering;
 use crate::edits::edited;
 use anyhow::Result;
+use check_run::check_all;
 use host_run::{Status, host_one};
 use std::alloc::{AllocError, Global};
 use std::collections::BTreeMap;
@@ -55,17 +56,42 @@ pub fn in_memory(alloc: Global, add: &[u8], edit: &str, words: &[&str]) -> Resul
     told(alloc, status, sink.bytes())
 }
 
-/// A call with these numbers of the fetch and of the put that fails, how the put does, and the most that a put takes.
-pub fn with_faults(alloc: Global, add: &[u8], faults: [&str; 4]) -> Result<String> {
-    let [fetch, put, how, most] = faults;
+/// The file `Add.class` in a store whose fetch of this number fails.
+fn store_with_fault(alloc: Global, add: &[u8], fetch: &str) -> Result<MemStore> {
     let failing = vec![in alloc; fetch.parse::<u64>()?]?;
-    let mut store = MemStore::failing(files(alloc, add, "whole")?, failing);
-    let mut writer = Faltering::new(
+    Ok(MemStore::failing(files(alloc, add, "whole")?, failing))
+}
+
+/// A writer of which the write of this number fails in this way, and which takes at most so many bytes in one.
+fn writer_with_fault(alloc: Global, put: &str, how: &str, most: &str) -> Result<Faltering> {
+    Ok(Faltering::new(
         alloc,
         put.parse::<u64>()?,
         how == "broken",
         most.parse::<usize>()?,
-    );
+    ))
+}
+
+/// A check of class files by these words, with the same faults.
+pub fn check_with_faults(
+    alloc: Global,
+    add: &[u8],
+    faults: [&str; 4],
+    words: &[&str],
+) -> Result<String> {
+    let [fetch, put, how, most] = faults;
+    let mut store = store_with_fault(alloc, add, fetch)?;
+    let mut writer = writer_with_fault(alloc, put, how, most)?;
+    let status = check_all(alloc, &texts(alloc, words)?, &mut store, &mut writer);
+    let text = str::from_utf8(writer.taken())?;
+    Ok(format!(in alloc; "{} {text:?}", status as u8)?)
+}
+
+/// A call with these numbers of the fetch and of the put that fails, how the put does, and the most that a put takes.
+pub fn with_faults(alloc: Global, add: &[u8], faults: [&str; 4]) -> Result<String> {
+    let [fetch, put, how, most] = faults;
+    let mut store = store_with_fault(alloc, add, fetch)?;
+    let mut writer = writer_with_fault(alloc, put, how, most)?;
     let status = host_one(
         alloc,
         &texts(alloc, WORDS)?,

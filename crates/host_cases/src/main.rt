@@ -26,6 +26,17 @@ fn answer<R: Files>(rt: &R, alloc: Global, add: &[u8], case: &[&str]) -> Result<
         ["fetch", fetch, "put", put, how, "most", most] => {
             calls::with_faults(alloc, add, [fetch, put, how, most])
         }
+        [
+            "check",
+            "fetch",
+            fetch,
+            "put",
+            put,
+            how,
+            "most",
+            most,
+            words @ ..,
+        ] => { calls::check_with_faults(alloc, add, [fetch, put, how, most], words) }
         ["read", name, limit] => devices::read(rt, alloc, name, limit),
         ["program_words", words @ ..] => devices::words(alloc, words),
         ["form", edit] => runs::form(alloc, add, edit),

@@ -1,10 +1,10 @@
 -- How an answer is told.
 use Rattle.std.specs.Prelude.{ℕ, Bool, true, false, ◌<◌, List, [], ◌∷◌, ◌++◌, length, Option, None, Some, codes, decimal}
 use Rattle.classfile_items.specs.FaultTexts.{fault_text}
-use Rattle.classfile_check.specs.declared.check.Checked.TheVariants.{Accepted, Refused}
-use Rattle.classfile_check.specs.Checks.{IsClassFile, Tells}
-use Rattle.classfile_check.specs.declared.line.Answer.{Answer}
-use Rattle.classfile_check.specs.declared.line.Answer.TheVariants.{Read, Absent, TooLarge, Unreadable}
+use Rattle.check_run.specs.declared.check.Checked.TheVariants.{Accepted, Refused}
+use Rattle.check_run.specs.Checks.{IsClassFile, Tells}
+use Rattle.check_run.specs.declared.line.Answer.{Answer}
+use Rattle.check_run.specs.declared.line.Answer.TheVariants.{Read, Absent, TooLarge, Unreadable}
 
 abbrev pub answer_text : Answer → List ℕ
 answer_text (Read (Accepted count)) = codes "accepted " ++ decimal count

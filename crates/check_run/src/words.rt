@@ -1,5 +1,5 @@
 ghost use Rattle.std.specs.Prelude.{◌↔◌, SomeIff, IsTrue, IfSome, IfNone, All, string_bytes};
-ghost use Rattle.classfile_check.specs.Words.{texts, IsFile, IsTimes, times_value, Names, Asks, AsksOnly, AsksNothing};
+ghost use Rattle.check_run.specs.Words.{texts, IsFile, IsTimes, times_value, Names, Asks, AsksOnly, AsksNothing};
 
 /// What the words ask for.
 #[derive(Clone, Copy)]

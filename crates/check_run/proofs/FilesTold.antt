@@ -7,11 +7,11 @@ use Rattle.std.proofs.lemmas.List.{map-append, append-nil, map_more, take-map, l
 use Rattle.std.proofs.lemmas.List.Elements.{All-nil, All-cons, All-append, All-weaker}
 use Rattle.std.proofs.lemmas.List.Folds.{list_all-append}
 use Rattle.std.proofs.lemmas.Grind.{flat_map-append}
-use Rattle.classfile_check.specs.declared.line.Answer.{Answer}
+use Rattle.check_run.specs.declared.line.Answer.{Answer}
 use Rattle.ti_port.specs.Port.{Rose}
-use Rattle.classfile_check.specs.Lines.{is_accepted, line_of}
-use Rattle.classfile_check.specs.Words.{Asks, texts}
-use Rattle.classfile_check.specs.Files.{IsSaid, IsReadable, told_lines, TellsFiles, TellsFirst, TellsAll, TellsSome}
+use Rattle.check_run.specs.Lines.{is_accepted, line_of}
+use Rattle.check_run.specs.Words.{Asks, texts}
+use Rattle.check_run.specs.Files.{IsSaid, IsReadable, told_lines, TellsFiles, TellsFirst, TellsAll, TellsSome}
 
 rose_later : (a b c : ℕ) → Rose a b → b ≤ c → Rose a c
 rose_later a b c rose later = omega arith

@@ -3,12 +3,12 @@ use Rattle.std.specs.Prelude.{◌≡◌, ◌⊎◌, ℕ, ◌<◌, ◌≤◌, Boo
 use Rattle.std.specs.List.{list_all}
 use Rattle.std.specs.Io.KnownBytes.{Appends}
 use Rattle.ti_port.specs.Port.{Rose}
-use Rattle.classfile_check.specs.declared.status.Status.{Status}
-use Rattle.classfile_check.specs.declared.status.Status.TheVariants.{WriteFault, OutOfMemory}
-use Rattle.classfile_check.specs.declared.line.Answer.{Answer}
-use Rattle.classfile_check.specs.declared.line.Answer.TheVariants.{Unreadable}
-use Rattle.classfile_check.specs.Lines.{Says, IsAccepted, is_accepted, line_of}
-use Rattle.classfile_check.specs.Words.{Asks}
+use Rattle.check_run.specs.declared.status.Status.{Status}
+use Rattle.check_run.specs.declared.status.Status.TheVariants.{WriteFault, OutOfMemory}
+use Rattle.check_run.specs.declared.line.Answer.{Answer}
+use Rattle.check_run.specs.declared.line.Answer.TheVariants.{Unreadable}
+use Rattle.check_run.specs.Lines.{Says, IsAccepted, is_accepted, line_of}
+use Rattle.check_run.specs.Words.{Asks}
 
 -- a line could not be written, or memory ran out
 abbrev pub IsFault : Status → Type 0

@@ -1,9 +1,9 @@
 ghost use Rattle.std.specs.Prelude.{◌≡◌, ◌↔◌, ◌≤◌, [], ◌∷◌, true, false, IsTrue, IfSome, IfOk, IfErr};
 ghost use Rattle.ti_port.specs.Port.{Rose};
-ghost use Rattle.classfile_check.specs.Checks.{Tells};
-ghost use Rattle.classfile_check.specs.Lines.{Says, IsAccepted};
-ghost use Rattle.classfile_check.specs.Files.{IsFault, AreAccepted, AcceptsAll, TellsFiles, TellsFirst, TellsAll, TellsSome};
-ghost use Rattle.classfile_check.specs.Words.{texts, AsksNothing, AsksSome};
+ghost use Rattle.check_run.specs.Checks.{Tells};
+ghost use Rattle.check_run.specs.Lines.{Says, IsAccepted};
+ghost use Rattle.check_run.specs.Files.{IsFault, AreAccepted, AcceptsAll, TellsFiles, TellsFirst, TellsAll, TellsSome};
+ghost use Rattle.check_run.specs.Words.{texts, AsksNothing, AsksSome};
 
 use crate::check::{Checked, check_class};
 use crate::line::{Answer, line};

@@ -1,10 +1,10 @@
 use Rattle.std.proofs.Common.{◌≡◌, Bool, Result, Ok, Err, sym, ap, ◌∙◌, subst, rules, arith}
 use Rattle.std.specs.Prelude.{IfErr, IsErrAnd}
 use Rattle.std.proofs.lemmas.Grind.{common_steps}
-use Rattle.classfile_check.specs.declared.status.Status.{Status}
-use Rattle.classfile_check.proofs.FilesTold.{tells_next, tells_first, and_yes, and_no}
-use Rattle.classfile_check.proofs.files.tell_files.Goals as goal
-use Rattle.classfile_check.proofs.files.tell_files.Goals.{then-all, else-all}
+use Rattle.check_run.specs.declared.status.Status.{Status}
+use Rattle.check_run.proofs.FilesTold.{tells_next, tells_first, and_yes, and_no}
+use Rattle.check_run.proofs.files.tell_files.Goals as goal
+use Rattle.check_run.proofs.files.tell_files.Goals.{then-all, else-all}
 
 pub loop-name-preserved : goal.loop-name-preserved
 loop-name-preserved g c =

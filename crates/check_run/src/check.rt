@@ -2,7 +2,7 @@ ghost use Rattle.std.specs.Prelude.{◌≡◌, ◌⊎◌, length, IfOk, IfErr};
 ghost use Rattle.class_tree.specs.Trees.{Tree};
 ghost use Rattle.classfile_items.specs.declared.fault.ReadClassFault.{ReadClassFault};
 ghost use Rattle.classfile_read.specs.Lawful.{Spells, FirstFault, Refuses};
-ghost use Rattle.classfile_check.specs.Checks.{IsClassFile, Tells};
+ghost use Rattle.check_run.specs.Checks.{IsClassFile, Tells};
 
 use classfile_read::{ReadClassFault, read_class};
 use classfile_write::write_class;

@@ -3,10 +3,10 @@ use Rattle.std.proofs.lemmas.List.{length-map}
 use Rattle.std.proofs.lemmas.Bool.Decides.{nat_tests}
 use Rattle.std.proofs.lemmas.List.Elements.{All-map}
 use Rattle.std.proofs.lemmas.Grind.{common_steps}
-use Rattle.classfile_check.specs.Words.{IsFile}
-use Rattle.classfile_check.proofs.WordsAsked.{nothing_else}
-use Rattle.classfile_check.proofs.words.read_request.Goals as goal
-use Rattle.classfile_check.proofs.words.read_request.Goals.{then-is_empty-via-then-is_empty, then-is_empty-via-else-is_empty+then-not-are_files}
+use Rattle.check_run.specs.Words.{IsFile}
+use Rattle.check_run.proofs.WordsAsked.{nothing_else}
+use Rattle.check_run.proofs.words.read_request.Goals as goal
+use Rattle.check_run.proofs.words.read_request.Goals.{then-is_empty-via-then-is_empty, then-is_empty-via-else-is_empty+then-not-are_files}
 
 pub returns-clause-asked : goal.returns-clause-asked
 returns-clause-asked c =

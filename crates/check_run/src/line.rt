@@ -1,6 +1,6 @@
 ghost use Rattle.std.specs.Prelude.{◌≡◌, IfOk, string_bytes};
 ghost use Rattle.classfile_items.specs.FaultTexts.{fault_text};
-ghost use Rattle.classfile_check.specs.Lines.{answer_text, is_accepted, joined, line_of};
+ghost use Rattle.check_run.specs.Lines.{answer_text, is_accepted, joined, line_of};
 
 use crate::check::Checked;
 use classfile_read::ReadClassFault;

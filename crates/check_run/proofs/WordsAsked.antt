@@ -3,7 +3,7 @@ use Rattle.std.proofs.Common.{ℕ, ◌<◌, List, [], ◌∷◌, length, All, St
 use Rattle.std.specs.declared.alloc.Global.{Global}
 use Rattle.std.proofs.lemmas.List.{length-map}
 use Rattle.std.proofs.lemmas.List.Elements.{All-nil, All-cons, All-head, All-tail}
-use Rattle.classfile_check.specs.Words.{texts, IsFile, Asks, AsksOnly, AsksNothing, AsksSome}
+use Rattle.check_run.specs.Words.{texts, IsFile, Asks, AsksOnly, AsksNothing, AsksSome}
 
 name_files : (names : List (String Global)) → All IsFile (texts names) → All (λ name. IsFile (string_bytes name)) names
 name_files [] all = All-nil (λ name. IsFile (string_bytes name))

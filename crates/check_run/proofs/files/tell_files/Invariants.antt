@@ -1,7 +1,7 @@
 use Rattle.std.proofs.Common.{◌≡◌, true, take}
-use Rattle.classfile_check.specs.Files.{AreAccepted, TellsFiles}
-use Rattle.classfile_check.specs.Words.{texts}
-use Rattle.classfile_check.proofs.files.tell_files.Given as goal
+use Rattle.check_run.specs.Files.{AreAccepted, TellsFiles}
+use Rattle.check_run.specs.Words.{texts}
+use Rattle.check_run.proofs.files.tell_files.Given as goal
 
 abbrev pub invariant-loop-name : goal.invariant-loop-name
 invariant-loop-name g l =

@@ -1,9 +1,9 @@
 use Rattle.std.proofs.Common.{◌≡◌, ◌≢◌, ℕ, List, inl, inr, sym, ◌∙◌}
-use Rattle.classfile_check.specs.declared.status.Status.{Status}
-use Rattle.classfile_check.specs.declared.status.Status.TheVariants.{Accepted, NotAccepted, Usage, WriteFault, OutOfMemory}
-use Rattle.classfile_check.specs.Files.{IsFault}
-use Rattle.classfile_check.specs.Words.{texts, Asks, AsksNothing}
-use Rattle.classfile_check.proofs.files.check_all.Goals as goal
+use Rattle.check_run.specs.declared.status.Status.{Status}
+use Rattle.check_run.specs.declared.status.Status.TheVariants.{Accepted, NotAccepted, Usage, WriteFault, OutOfMemory}
+use Rattle.check_run.specs.Files.{IsFault}
+use Rattle.check_run.specs.Words.{texts, Asks, AsksNothing}
+use Rattle.check_run.proofs.files.check_all.Goals as goal
 
 -- another status, where the words ask for something
 other : (words : List (List ℕ)) (times : ℕ) (files : List (List ℕ)) (status : Status) → Asks words times files → status ≢ Usage → (status ≡ Usage → AsksNothing words) × (AsksNothing words → status ≡ Usage)

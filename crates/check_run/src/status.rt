@@ -19,7 +19,7 @@ pub enum Status {
 }
 
 impl From<AllocError> for Status {
-    ghost use Rattle.classfile_check.specs.declared.status.Status.TheVariants.{OutOfMemory};
+    ghost use Rattle.check_run.specs.declared.status.Status.TheVariants.{OutOfMemory};
 
     ghost from_gives = { λ _ status. status ≡ OutOfMemory };
 
@@ -29,7 +29,7 @@ impl From<AllocError> for Status {
 }
 
 impl From<io::Error> for Status {
-    ghost use Rattle.classfile_check.specs.declared.status.Status.TheVariants.{WriteFault};
+    ghost use Rattle.check_run.specs.declared.status.Status.TheVariants.{WriteFault};
 
     ghost from_gives = { λ _ status. status ≡ WriteFault };
 

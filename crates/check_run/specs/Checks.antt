@@ -3,8 +3,8 @@ use Rattle.std.specs.Prelude.{◌≡◌, ◌≢◌, ℕ, List, length}
 use Rattle.class_tree.specs.Trees.{Tree}
 use Rattle.classfile_items.specs.declared.fault.ReadClassFault.TheVariants.{Memory}
 use Rattle.classfile_read.specs.Lawful.{Spells, FirstFault}
-use Rattle.classfile_check.specs.declared.check.Checked.{Checked}
-use Rattle.classfile_check.specs.declared.check.Checked.TheVariants.{Accepted, Refused}
+use Rattle.check_run.specs.declared.check.Checked.{Checked}
+use Rattle.check_run.specs.declared.check.Checked.TheVariants.{Accepted, Refused}
 
 -- The bytes are the class file of a tree.
 abbrev pub IsClassFile : List ℕ → Type 0
