@@ -1,12 +1,14 @@
 #!/bin/sh
-# What `java` answers of the classes in the tests of link_versions: which class's method a call runs, which class's field is
-# read, and which casts of arrays pass. Each class is compiled apart, so that one may change after those that name it were
-# compiled. It runs outside the gate, and is skipped where there is no javac.
+# What `java` answers of the class files in crates/run_cases/data: which class's method a call runs, which class's field is read,
+# which casts pass, and what three methods answer. It prints these as lines of crates/run_cases/stdout, and then those that do
+# not stand there. Each class is compiled apart, so that one may change after those that name it were compiled. With the word
+# `data` it writes the class files instead. It runs outside the gate, and is skipped where there is no javac.
 set -eu
 if ! command -v javac >/dev/null 2>&1; then
     echo "linking.sh: skipped, since javac is missing"
     exit 0
 fi
+crate=$(cd "$(dirname "$0")/../crates/run_cases" && pwd)
 folder=$(mktemp -d)
 trap 'rm -rf "$folder"' EXIT
 cd "$folder"
@@ -14,7 +16,7 @@ mkdir named made
 
 # compiles a file for version 8, against the classes of a folder, into a folder
 compile() {
-    javac -nowarn -source 8 -target 8 -cp "$2" -d "$3" "$1" >messages.txt 2>&1 || {
+    javac -nowarn -g:none -source 8 -target 8 -cp "$2" -d "$3" "$1" >messages.txt 2>&1 || {
         cat messages.txt
         exit 1
     }
@@ -66,36 +68,54 @@ made made 'class S extends C { public static char m() { return 83; } }'
 made made 'abstract class G extends C { public abstract char m(); }'
 made made 'class C { public static char x = 67, z = x; public char m() { return 67; } }'
 
+# writes the class files into the data
+write_data() {
+    cp "$crate/data/Numbers.java" .
+    compile Numbers.java . made
+    rm made/Show.class
+    cp made/*.class "$crate/data"
+}
+if [ "${1-}" = data ]; then
+    write_data
+    exit 0
+fi
+
 # the calls, as CLASS.METHOD on RECEIVER
 {
     echo 'public class Calls { interface Call { Object run() throws Throwable; }'
-    echo 'static void show(String what, Call call) { Object found; try { found = call.run(); } catch (Throwable t) { found = t.getClass().getSimpleName(); } System.out.println(what + " " + found); }'
+    echo 'static String answer(Throwable t) { switch (t.getClass().getSimpleName()) { case "NoSuchMethodError": return "no such method"; case "NoSuchFieldError": return "no such field"; case "AbstractMethodError": return "an abstract method"; case "IncompatibleClassChangeError": return "several methods to choose from"; default: return t.toString(); } }'
+    echo 'static void show(String what, Call call) { Object found; try { found = call.run(); } catch (Throwable t) { found = answer(t); } System.out.println(what + " -> " + found); }'
     echo 'public static void main(String[] args) throws Exception {'
     for call in A.m.A I.m.A J.m.A A.d.A I.a.A A.none.A B.m.B J.m.B I.m.B K.m.B D.m.D J.m.D I.m.D C.m.D E.m.E L.m.E K.m.E F.m.F L.m.F \
         H.m.H C.m.H C.m.P C.m.Q C.m.S C.m.T C.m.U X.m.X A.m.X K.m.X X.d.X; do
         class=${call%%.*} receiver=${call##*.} method=${call#*.} method=${method%.*}
-        echo "show(\"$call\", () -> (($class) (Object) Class.forName(\"$receiver\").getDeclaredConstructor().newInstance()).$method());"
+        echo "show(\"call $class $method ()C $receiver\", () -> (($class) (Object) Class.forName(\"$receiver\").getDeclaredConstructor().newInstance()).$method());"
     done
     echo 'Object a = Class.forName("A").getDeclaredConstructor().newInstance();'
-    echo 'show("I.hashCode.A", () -> ((I) a).hashCode() == System.identityHashCode(a) ? "Object" : "other");'
-    echo 'show("I.finalize.A", () -> { ((I) a).finalize(); return "found"; });'
+    echo 'show("call I hashCode ()I A", () -> ((I) a).hashCode() == System.identityHashCode(a) ? "java/lang/Object" : "other");'
+    echo 'show("call I finalize ()V A", () -> { ((I) a).finalize(); return "found"; });'
     for field in I.x J.x J.y A.x A.y B.x C.x C.y D.x D.y D.z H.z Q.x Q.z X.x K.x; do
-        echo "show(\"$field\", () -> $field);"
+        echo "show(\"resolve_field ${field%.*} ${field#*.} C\", () -> $field);"
     done
     echo '} }'
 } >Calls.java
 compile Calls.java named .
-java -cp made:. Calls
-made made 'class Private { public static void main(String[] args) { System.out.println("P.m.Q by P " + P.call(new Q())); } }'
-java -cp made Private
+java -cp made:. Calls >answers.txt
+made made 'class Private { public static void main(String[] args) { System.out.println("call P m ()C Q -> " + P.call(new Q())); } }'
+java -cp made Private >>answers.txt
 
 # the casts: of a value of each class to each class
 {
-    echo 'public class Casts { public static void main(String[] args) { Object[] values = {'
-    echo 'new Object(), "", new A(), new int[0], new boolean[0], new int[0][], new Object[0], new String[0], new A[0], new I[0], new J[0], new Cloneable[0], new Object[0][], new A[0][] };'
-    echo 'Class<?>[] more = { Cloneable.class, java.io.Serializable.class, I.class, J.class };'
-    echo 'java.util.List<Class<?>> all = new java.util.ArrayList<>(); for (Object v : values) all.add(v.getClass()); for (Class<?> c : more) all.add(c);'
-    echo 'for (Object v : values) { StringBuilder line = new StringBuilder(v.getClass().getName() + ":"); for (Class<?> c : all) { try { c.cast(v); line.append(" " + c.getName()); } catch (ClassCastException e) { } } System.out.println(line); } } }'
+    echo 'public class Casts { public static void main(String[] args) { Object[] arrays = {'
+    echo 'new int[0], new boolean[0], new int[0][], new Object[0], new String[0], new A[0], new I[0], new J[0], new Cloneable[0], new Object[0][], new A[0][] };'
+    echo 'Class<?>[] others = { Object.class, Cloneable.class, java.io.Serializable.class, String.class, I.class, J.class, A.class };'
+    echo 'java.util.List<Object> values = new java.util.ArrayList<>(java.util.Arrays.asList(arrays)); values.add(new Object()); values.add(""); values.add(new A());'
+    echo 'java.util.List<Class<?>> all = new java.util.ArrayList<>(java.util.Arrays.asList(others)); for (Object v : arrays) all.add(v.getClass());'
+    echo 'for (Object v : values) { StringBuilder line = new StringBuilder("casts " + v.getClass().getName() + " ->"); for (Class<?> c : all) { try { c.cast(v); line.append(" " + c.getName()); } catch (ClassCastException e) { } } System.out.println(line.toString().replace(".", "/")); } } }'
 } >Casts.java
 compile Casts.java made .
-java -cp made:. Casts
+java -cp made:. Casts >>answers.txt
+java -cp "$crate/data" Numbers >>answers.txt
+cat answers.txt
+echo "linking.sh: lines that crates/run_cases/stdout has otherwise:"
+grep -Fxv -f "$crate/stdout" answers.txt || true

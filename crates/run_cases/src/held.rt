@@ -1,8 +1,9 @@
 //! What the lines of a file build up.
 
 use crate::words::{Unanswered, number, said};
-use crate::{frames, heap, local, monitors, operands};
+use crate::{classes, frames, heap, local, monitors, operands};
 use java_heap::Heap;
+use link_versions::Classes;
 use monitor_table::Monitors;
 use std::alloc::Global;
 use std::rt::Files;
@@ -17,6 +18,7 @@ pub enum Held {
     Stacks(Stacks<u32>),
     Operands(Operands),
     Heap(Heap),
+    Classes(Classes),
 }
 
 /// A new value.
@@ -26,6 +28,7 @@ fn begin(alloc: Global, words: &[&str]) -> Result<Held, Unanswered> {
         ["stacks"] => Ok(Held::Stacks(Stacks::new(alloc))),
         ["operands", room] => Ok(Held::Operands(Operands::new(alloc, number(room)?)?)),
         ["heap", limit] => Ok(Held::Heap(Heap::new(alloc, number(limit)?))),
+        ["classes"] => Ok(Held::Classes(Classes::new(alloc))),
         _ => Err(Unanswered::NotCase),
     }
 }
@@ -45,17 +48,23 @@ impl Held {
                 said(alloc, "made")
             }
             ["local", ..] => local::answer(alloc, line),
-            call => self.called(alloc, call),
+            ["define", file] => match self {
+                Held::Classes(classes) => classes::define(rt, classes, file),
+                _ => Err(Unanswered::NotCase),
+            },
+            call => self.called(alloc, line, call),
         }
     }
 
-    fn called(&mut self, alloc: Global, call: &[&str]) -> Result<String, Unanswered> {
+    /// Makes a call of these words, which are the line's.
+    fn called(&mut self, alloc: Global, line: &str, call: &[&str]) -> Result<String, Unanswered> {
         match self {
             Held::Nothing => Err(Unanswered::NotCase),
             Held::Monitors(monitors) => monitors::answer(alloc, monitors, call),
             Held::Stacks(stacks) => frames::answer(alloc, stacks, call),
             Held::Operands(operands) => operands::answer(alloc, operands, call),
             Held::Heap(heap) => heap::answer(alloc, heap, call),
+            Held::Classes(classes) => classes::answer(alloc, classes, line, call),
         }
     }
 }

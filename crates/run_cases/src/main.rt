@@ -6,6 +6,7 @@
 //! An object is written `#3`, a thread `t1`, an int `5`, a long `5L`, and no object `null`.
 #![tactic(auto)]
 
+mod classes;
 mod frames;
 mod heap;
 mod held;
