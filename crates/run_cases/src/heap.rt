@@ -82,24 +82,42 @@ fn alloc_array(
     made(alloc, heap.alloc_array(class, length, first))
 }
 
-/// A new instance whose fields are an int, a long and null, and what they are once a value was put in one of them.
+/// A new instance whose fields are an int, a long and null, and what they are once a value was put in the last one.
 fn put_field(
     alloc: Global,
     heap: &mut Heap,
     class: ClassNo,
-    place: u32,
     value: Value,
 ) -> Result<String, Unanswered> {
-    let fields = [Value::Int(1), Value::Long(2), Value::Ref(None)];
-    let Ok(object) = heap.alloc_object(class, &fields) else {
+    let Ok(object) = heap.alloc_object(class, &[Value::Int(1), Value::Long(2), Value::Ref(None)])
+    else {
         return said(alloc, "no object");
     };
-    if place >= 3 || !names_there(heap, value) {
+    if !names_there(heap, value) {
         return Err(Unanswered::NotCase);
     }
-    heap.set_field(object, place, value);
+    heap.set_field(object, 2, value);
     let (first, second) = (heap.get_field(object, 0), heap.get_field(object, 1));
     let third = heap.get_field(object, 2);
+    Ok(format!(in alloc; "{} {} {}", Shown(first), Shown(second), Shown(third))?)
+}
+
+/// A new array of three elements that are null, and what they are once a value was put in the second one.
+fn put_elem(
+    alloc: Global,
+    heap: &mut Heap,
+    class: ClassNo,
+    value: Value,
+) -> Result<String, Unanswered> {
+    let Ok(array) = heap.alloc_array(class, 3, Value::Ref(None)) else {
+        return said(alloc, "no object");
+    };
+    if !names_there(heap, value) {
+        return Err(Unanswered::NotCase);
+    }
+    heap.set_elem(array, 1, value);
+    let (first, second) = (heap.get_elem(array, 0), heap.get_elem(array, 1));
+    let third = heap.get_elem(array, 2);
     Ok(format!(in alloc; "{} {} {}", Shown(first), Shown(second), Shown(third))?)
 }
 
@@ -121,46 +139,25 @@ fn append(
     }
 }
 
-/// Whether a value may be put in the element at a place of an array.
-fn elem(
-    alloc: Global,
-    heap: &mut Heap,
-    array: ObjNo,
-    place: u32,
-    new: Option<Value>,
-) -> Result<String, Unanswered> {
-    let Some(length) = heap.array_length(array) else {
-        return Err(Unanswered::NotCase);
-    };
-    if place >= length {
-        return Err(Unanswered::NotCase);
-    }
-    if let Some(value) = new {
-        if !names_there(heap, value) {
-            return Err(Unanswered::NotCase);
-        }
-        heap.set_elem(array, place, value);
-    }
-    told(alloc, Some(heap.get_elem(array, place)))
-}
-
-/// Puts a reference at an object's side, where there is one to put, and answers the one that is there then.
-fn side(
-    alloc: Global,
-    heap: &mut Heap,
-    object: ObjNo,
-    new: Option<Option<ObjNo>>,
-) -> Result<String, Unanswered> {
+/// The reference at an object's side.
+fn side(alloc: Global, heap: &Heap, object: ObjNo) -> Result<String, Unanswered> {
     if !is_there(heap, object) {
         return Err(Unanswered::NotCase);
     }
-    if let Some(side) = new {
-        if !names_there(heap, Value::Ref(side)) {
-            return Err(Unanswered::NotCase);
-        }
-        heap.set_side(object, side);
-    }
     told(alloc, Some(Value::Ref(heap.side(object))))
+}
+
+fn set_side(
+    alloc: Global,
+    heap: &mut Heap,
+    object: ObjNo,
+    side: Option<ObjNo>,
+) -> Result<String, Unanswered> {
+    if !is_there(heap, object) || !names_there(heap, Value::Ref(side)) {
+        return Err(Unanswered::NotCase);
+    }
+    heap.set_side(object, side);
+    said(alloc, "done")
 }
 
 fn class_of(alloc: Global, heap: &Heap, object: ObjNo) -> Result<String, Unanswered> {
@@ -193,10 +190,10 @@ fn make(alloc: Global, heap: &mut Heap, words: &[&str]) -> Result<String, Unansw
         ["literal", word] => made(alloc, heap.literal(&text(alloc, word)?)),
         ["class_object", class] => made(alloc, heap.class_object(ClassNo(number(class)?))),
         ["append", first, more] => append(alloc, heap, &text(alloc, first)?, &text(alloc, more)?),
-        ["put_field", class, place, new] => {
-            let class = ClassNo(number(class)?);
-            put_field(alloc, heap, class, number(place)?, value(new)?)
+        ["put_field", class, new] => {
+            put_field(alloc, heap, ClassNo(number(class)?), value(new)?)
         }
+        ["put_elem", class, new] => put_elem(alloc, heap, ClassNo(number(class)?), value(new)?),
         _ => Err(Unanswered::NotCase),
     }
 }
@@ -206,12 +203,8 @@ pub fn answer(alloc: Global, heap: &mut Heap, words: &[&str]) -> Result<String, 
     match *words {
         ["size"] => size(alloc, heap),
         ["class_of", at] => class_of(alloc, heap, object(at)?),
-        ["side", at] => side(alloc, heap, object(at)?, None),
-        ["set_side", at, new] => side(alloc, heap, object(at)?, Some(reference(new)?)),
-        ["get_elem", at, place] => elem(alloc, heap, object(at)?, number(place)?, None),
-        ["set_elem", at, place, new] => {
-            elem(alloc, heap, object(at)?, number(place)?, Some(value(new)?))
-        }
+        ["side", at] => side(alloc, heap, object(at)?),
+        ["set_side", at, new] => set_side(alloc, heap, object(at)?, reference(new)?),
         ["array_length", at] => told_number(alloc, "", heap.array_length(object(at)?)),
         ["text", at] => units_of(alloc, heap, object(at)?),
         ["class_named", at] => {
