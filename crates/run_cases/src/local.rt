@@ -42,7 +42,7 @@ fn told(alloc: Global, frame: &Frame<u32>) -> Result<String, Unanswered> {
 }
 
 /// The frame after an instruction of so many bytes, behind which another one stands.
-#[tactic(auto, using(crate::proofs::TwoOffsets::two_rise))]
+#[tactic(auto, using(bytecode_local::proofs::TwoOffsets::two_rise))]
 fn step(alloc: Global, instr: Instr, length: u16, frame: Frame<u32>) -> Result<String, Unanswered>
     requires { 0 < length }
 {
