@@ -83,8 +83,8 @@ stores_within (Some (place, v)) locals = has_places locals place v
 
 module _ {P : Type 0} where
   -- A frame has room for what the change puts on its operand stack, and the local variables that it stores into.
-  abbrev pub takes : Frame P → Change → Bool
-  takes frame change = has_room change frame.stack && stores_within change.stored frame.locals
+  abbrev pub can_take : Frame P → Change → Bool
+  can_take frame change = has_room change frame.stack && stores_within change.stored frame.locals
 
   -- The frame after the change, at this pc. The instruction there was not announced.
   abbrev pub changed : Frame P → Change → ℕ → Frame P

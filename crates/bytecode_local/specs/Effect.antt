@@ -13,7 +13,7 @@ use Rattle.class_code.specs.declared.instr.Instr.TheVariants as instr
 use Rattle.jv_number.specs.Values.{is_division}
 use Rattle.thread_frames.specs.Operands.{OperandStack}
 use Rattle.thread_frames.specs.declared.frame.Frame.{Frame}
-use Rattle.bytecode_local.specs.Changes.{Change, exchange, jumping, takes, changed}
+use Rattle.bytecode_local.specs.Changes.{Change, exchange, jumping, can_take, changed}
 use Rattle.bytecode_local.specs.Constants.{int_constant, long_constant, pushing}
 use Rattle.bytecode_local.specs.Locals.{loaded, stored, incremented}
 use Rattle.bytecode_local.specs.Rearranging.{rearranged}
@@ -121,7 +121,7 @@ module _ {P : Type 0} where
   -- the frame's change, and the pc after it
   abbrev pub planned : List (ℕ × Instr) → Frame P → Option (Change × ℕ)
   planned code frame = instr_at code frame.pc >>= λ i. change_of i frame.locals frame.stack >>= λ change.
-      if takes frame change then (goes_on_at code frame.pc change.jump >>= λ pc. Some (change, pc)) else None
+      if can_take frame change then (goes_on_at code frame.pc change.jump >>= λ pc. Some (change, pc)) else None
 
   -- The frame after its instruction. None where there is no instruction at its pc, where that is not local, and where it is a
   -- misfit: operands are missing or of another kind, a local variable is not there, the operand stack has no room, or a

@@ -1,6 +1,6 @@
 ghost use Rattle.std.specs.Prelude.{◌≡◌, ◌≤◌, ◌*◌, ◌++◌, IsTrue, length, drop, take};
 ghost use Rattle.thread_frames.specs.Operands.{value_words, words_of};
-ghost use Rattle.bytecode_local.specs.Changes.{exchange, storing, jumping, changed_entries, has_room, stores_within, takes, changed};
+ghost use Rattle.bytecode_local.specs.Changes.{exchange, storing, jumping, changed_entries, has_room, stores_within, can_take, changed};
 ghost use Rattle.bytecode_local.specs.Constants.{pushing};
 
 use crate::locals::{has_places, store, value_words};
@@ -166,8 +166,8 @@ fn stores_within(change: &Change, locals: &Items<Value>) -> bool
 }
 
 /// Whether a frame has room for what a change puts on its operand stack, and the local variables that it stores into.
-pub(crate) fn takes<P>(frame: &Frame<P>, change: &Change) -> bool
-    ensures { result ≡ takes frame.now change.now }
+pub(crate) fn can_take<P>(frame: &Frame<P>, change: &Change) -> bool
+    ensures { result ≡ can_take frame.now change.now }
 {
     has_room(change, &frame.stack) && stores_within(change, &frame.locals)
 }
@@ -197,7 +197,7 @@ fn push_all(stack: &mut Operands, values: &[Value])
 
 /// The frame after a change, at this pc.
 pub(crate) fn apply<P: Drop>(change: Change, pc: u16, frame: Frame<P>) -> Frame<P>
-    requires { IsTrue (takes frame change) }
+    requires { IsTrue (can_take frame change) }
     ensures { result ≡ changed frame change pc }
 {
     let mut frame = frame;

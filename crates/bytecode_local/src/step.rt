@@ -3,11 +3,11 @@ ghost use Rattle.std.specs.Bool.{OnTrue};
 ghost use Rattle.class_code.specs.Codes.{slot_place};
 ghost use Rattle.class_code.specs.Listing.{IsRising};
 ghost use Rattle.class_code.specs.Lookups.{instr_at};
-ghost use Rattle.bytecode_local.specs.Changes.{takes, changed};
+ghost use Rattle.bytecode_local.specs.Changes.{can_take, changed};
 ghost use Rattle.bytecode_local.specs.Effect.{local_simple, local, simple_change, change_of, offset, goes_on_at, planned, effect, Fits};
 
 use crate::branches::branch;
-use crate::change::{Change, apply, takes};
+use crate::change::{Change, apply, can_take};
 use crate::constants::{int_constant, long_constant};
 use crate::locals::{increment_change, load_change, store_change};
 use crate::numbers::{compare_longs, compute, is_division, make_conversion};
@@ -123,12 +123,12 @@ fn jump(pc: u16, by: i32) -> Option<u16>
 fn plan<P>(code: &[(u16, Instr)], frame: &Frame<P>) -> Option<(Change, u16)>
     requires { IsRising code.now }
     ensures value { result ≡ planned code.now frame.now }
-    ensures taken { IfSome result (λ p. IsTrue (takes frame.now p.0)) }
+    ensures taken { IfSome result (λ p. IsTrue (can_take frame.now p.0)) }
     ensures local { OnSome result (IsSomeAnd (instr_at code.now frame.now.pc) (λ i. IsTrue (local i))) }
 {
     let (instr, following) = entry_at(code, frame.pc)?;
     let change = change_of(instr, &frame.locals, &frame.stack)?;
-    if !takes(frame, &change) {
+    if !can_take(frame, &change) {
         return None;
     }
     let pc = match change.jump {

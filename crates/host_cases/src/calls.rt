@@ -25,7 +25,7 @@ fn texts(alloc: Global, words: &[&str]) -> Result<Vec<String>, AllocError> {
 
 fn told(alloc: Global, status: Status, written: &[u8]) -> Result<String> {
     let text = str::from_utf8(written)?;
-    Ok(format!(in alloc; "{} {text:?}", status as u8)?)
+    Ok(format!(in alloc; "{} {text:?}", status.number())?)
 }
 
 /// A call over the files of the system.

@@ -1,5 +1,6 @@
 pub mod Sent
 pub mod Loading
 pub mod Promises
+pub mod Refused
 pub mod Picked
 pub mod Reported

@@ -6,8 +6,8 @@ use Rattle.ti_ids.specs.declared.actor.End.TheVariants as ends
 use Rattle.ti_port.specs.Port.{Told}
 use Rattle.machine_model.specs.Jobs.{Job}
 use Rattle.machine_model.specs.Results.{Accepted, result_of}
-use Rattle.host_run.specs.declared.status.Status.{Status}
-use Rattle.host_run.specs.declared.status.Status.TheVariants.{Usage, ReadFault, WriteFault, OutOfMemory}
+use Rattle.job_words.specs.declared.status.Status.{Status}
+use Rattle.job_words.specs.declared.status.Status.TheVariants.{Usage, ReadFault, WriteFault, OutOfMemory}
 use Rattle.host_run.specs.Statuses.{status_of_end}
 use Rattle.host_run.specs.Written.{Writes}
 use Rattle.host_run.specs.Counts.{NoFetchFailed, StoreCounts}
@@ -52,7 +52,7 @@ run_store_counts job words WriteFault before now first last answers none = inr n
 run_store_counts job words OutOfMemory before now first last answers none = none
 run_store_counts job words _ before now first last answers none = none
 
-told_map : (P Q : List ℕ → List ℕ → Type 0) (a b : Option (List ℕ)) → ((x y : List ℕ) → P x y → Q x y) → Told P a b → Told Q a b
+pub told_map : (P Q : List ℕ → List ℕ → Type 0) (a b : Option (List ℕ)) → ((x y : List ℕ) → P x y → Q x y) → Told P a b → Told Q a b
 told_map P Q (Some x) (Some y) f h = f x y h
 told_map P Q (Some x) None f h = absurd h
 told_map P Q None (Some y) f h = absurd h

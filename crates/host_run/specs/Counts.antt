@@ -2,8 +2,8 @@
 use Rattle.std.specs.Prelude.{◌≡◌, ◌≤◌, ◌⊎◌, ℕ, List, Option, Some}
 use Rattle.ti_port.specs.Port.{Rose}
 use Rattle.machine_model.specs.Results.{Request, request_of}
-use Rattle.host_run.specs.declared.status.Status.{Status}
-use Rattle.host_run.specs.declared.status.Status.TheVariants.{ReadFault, WriteFault}
+use Rattle.job_words.specs.declared.status.Status.{Status}
+use Rattle.job_words.specs.declared.status.Status.TheVariants.{ReadFault, WriteFault}
 
 -- the fetch of the file that the words name failed: the store's count rose, and it keeps that name as the last failed one's
 pub record FetchFailed (words : List (List ℕ)) (before now : ℕ) (last : Option (List ℕ)) : Type 0 where

@@ -8,7 +8,7 @@ use Rattle.machine_model.specs.Rules as rules
 use Rattle.machine_model.specs.Replay.{Runs, state}
 use Rattle.machine_model.specs.Picks.{picked}
 use Rattle.machine_model.specs.Reports.{report}
-use Rattle.host_run.specs.declared.status.Status.{Status}
+use Rattle.job_words.specs.declared.status.Status.{Status}
 use Rattle.host_run.specs.Statuses.{status_of_end, IsFault}
 
 -- what was written is the report of the job's run by the schedule that the text itself states

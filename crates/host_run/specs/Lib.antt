@@ -4,7 +4,7 @@ pub mod Headline
 pub mod Written
 pub mod Counts
 pub mod Puts
-pub mod Refusals
+pub mod Lines
 pub mod Loads
 pub mod Runs
 pub mod Halves

@@ -4,22 +4,18 @@ use Rattle.std.specs.Prelude as std
 use Rattle.class_tree.specs.Trees.{Tree}
 use Rattle.classfile_items.specs.declared.fault.ReadClassFault.TheVariants.{Memory}
 use Rattle.classfile_items.specs.Reading.{Checked}
+use Rattle.job_words.specs.declared.refusal.Refusal.{Refusal}
+use Rattle.job_words.specs.declared.refusal.Refusal.TheVariants.{ReadFault, BadClass}
 use Rattle.machine_model.specs.Jobs.{Job}
-use Rattle.machine_model.specs.Results as results
 use Rattle.machine_model.specs.Results.{Result, Refused, Accepted}
 use Rattle.host_run.specs.declared.load.JobFault.{JobFault}
 use Rattle.host_run.specs.declared.load.JobFault.TheVariants as faults
-use Rattle.host_run.specs.declared.refusal.Refusal.{Refusal}
-use Rattle.host_run.specs.declared.refusal.Refusal.TheVariants.{Usage, Absent, ReadFault, TooLarge, BadClass}
 use Rattle.host_run.specs.Counts.{FetchFailed, NoFetchFailed}
 
--- the refusal is the result, unless a fetch failed
+-- the refusal is the result, unless the fetch of the only file failed
 abbrev pub IsRefusal : Refusal → Result → Type 0
-IsRefusal Usage asked = asked ≡ Refused results.Usage
-IsRefusal Absent asked = asked ≡ Refused results.Absent
-IsRefusal TooLarge asked = asked ≡ Refused results.TooLarge
-IsRefusal (BadClass fault) asked = asked ≡ Refused (results.BadClass fault)
-IsRefusal ReadFault asked = Unit {0}
+IsRefusal (ReadFault place) asked = place ≡ 1
+IsRefusal refusal asked = asked ≡ Refused refusal
 
 -- the job or the refusal is the result, unless a fetch failed or memory ran out
 abbrev pub Loads : std.Result Job JobFault → Result → Type 0
@@ -29,12 +25,12 @@ Loads (Err faults.Memory) asked = Unit {0}
 
 -- only a failed fetch counts
 abbrev pub LoadCounts : List (List ℕ) → std.Result Job JobFault → ℕ → ℕ → Option (List ℕ) → Option (List ℕ) → Type 0
-LoadCounts words (Err (faults.Refused ReadFault)) before now first last = FetchFailed words before now last
+LoadCounts words (Err (faults.Refused (ReadFault place))) before now first last = FetchFailed words before now last
 LoadCounts words _ before now first last = NoFetchFailed before now first last
 
--- a fault of a class file, which want of memory is none of
+-- a fault of the only class file, which want of memory is none of
 abbrev pub IsClassFault : Refusal → Type 0
-IsClassFault (BadClass fault) = fault ≢ Memory
+IsClassFault (BadClass place fault) = (place ≡ 1) × (fault ≢ Memory)
 IsClassFault refusal = ⊥
 
 -- what a fault says of a class file that was found
@@ -45,7 +41,7 @@ IsOfClass (Err faults.Memory) = Unit {0}
 
 -- the refusal is for the fault that was found
 abbrev pub IsFound : Refusal → Checked Tree → Type 0
-IsFound (BadClass fault) found = (found ≡ Err fault) × (fault ≢ Memory)
+IsFound (BadClass place fault) found = (place ≡ 1) × (found ≡ Err fault) × (fault ≢ Memory)
 IsFound refusal found = ⊥
 
 -- a class file was found, or has the fault, unless memory ran out

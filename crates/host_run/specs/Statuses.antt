@@ -2,10 +2,10 @@
 use Rattle.std.specs.Prelude.{◌≡◌, ◌⊎◌, Option, Some, option_map}
 use Rattle.ti_ids.specs.declared.actor.End.{End}
 use Rattle.ti_ids.specs.declared.actor.End.TheVariants as ends
-use Rattle.machine_model.specs.Results as results
+use Rattle.job_words.specs.declared.status.Status.{Status}
+use Rattle.job_words.specs.declared.status.Status.TheVariants.{Done, ReadFault, WriteFault, OutOfMemory, Stuck, Limit}
+use Rattle.job_words.specs.Statuses.{refusal_status}
 use Rattle.machine_model.specs.Results.{Result, Refused, Accepted, picked_end}
-use Rattle.host_run.specs.declared.status.Status.{Status}
-use Rattle.host_run.specs.declared.status.Status.TheVariants.{Done, Usage, Absent, BadClass, ReadFault, WriteFault, OutOfMemory, TooLarge, Stuck, Limit}
 
 -- of a run with this end; no thread ends by an exception yet
 abbrev pub status_of_end : End → Status
@@ -15,15 +15,9 @@ status_of_end ends.StepLimit = Limit
 status_of_end ends.LineLimit = Limit
 status_of_end ends.OutputLimit = Limit
 
-abbrev pub status_of_refusal : results.Refusal → Status
-status_of_refusal results.Usage = Usage
-status_of_refusal results.Absent = Absent
-status_of_refusal results.TooLarge = TooLarge
-status_of_refusal (results.BadClass fault) = BadClass
-
 -- of a refusal, or of the one worker's run of a job; it is there, since that run has an end
 abbrev pub status_of : Result → Option Status
-status_of (Refused refusal) = Some (status_of_refusal refusal)
+status_of (Refused refusal) = Some (refusal_status refusal)
 status_of (Accepted job) = option_map status_of_end (picked_end job)
 
 -- a fetch failed, a put failed, or memory ran out

@@ -1,14 +1,16 @@
 -- What the sink holds after each status.
-use Rattle.std.specs.Prelude.{◌≡◌, ◌⊎◌, ℕ, List, codes}
+use Rattle.std.specs.Prelude.{◌≡◌, ◌⊎◌, ℕ, List}
 use Rattle.ti_port.specs.Port.{Rose}
+use Rattle.job_words.specs.declared.refusal.Refusal.TheVariants as refusals
+use Rattle.job_words.specs.declared.status.Status.{Status}
+use Rattle.job_words.specs.declared.status.Status.TheVariants.{ReadFault, WriteFault, OutOfMemory}
+use Rattle.job_words.specs.Refusals.{refusal_text}
 use Rattle.machine_model.specs.Results.{Result, result_text}
-use Rattle.host_run.specs.declared.status.Status.{Status}
-use Rattle.host_run.specs.declared.status.Status.TheVariants.{ReadFault, WriteFault, OutOfMemory}
 use Rattle.host_run.specs.Puts.{Grew, GrewInPart}
 
--- the line of a fetch that failed
+-- the line of a fetch that failed, which is that of the only file
 abbrev pub read_text : List ℕ
-read_text = codes "refused read 1\n"
+read_text = refusal_text (refusals.ReadFault 1)
 
 -- after a failed put: a front of the result's text, or of the line of a failed fetch, where the store's count rose from `faults` to `faults'`
 abbrev pub WritesInPart : Result → ℕ → ℕ → List ℕ → List ℕ → Type 0

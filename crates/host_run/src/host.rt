@@ -3,20 +3,32 @@ ghost use Rattle.ti_port.specs.Port.{Told, Rose};
 ghost use Rattle.machine_model.specs.Jobs.{Job as TheJob};
 ghost use Rattle.machine_model.specs.Results.{request_of, result_of, Accepted};
 ghost use Rattle.host_run.specs.Words.{texts};
-ghost use Rattle.host_run.specs.Statuses.{Answers, status_of};
+ghost use Rattle.host_run.specs.Statuses.{Answers, status_of, status_of_end};
 ghost use Rattle.host_run.specs.Headline.{Headline};
 ghost use Rattle.host_run.specs.Written.{Writes};
 ghost use Rattle.host_run.specs.Counts.{NoFetchFailed, StoreCounts, SinkCounts};
 ghost use Rattle.host_run.specs.Halves.{RunAnswers, RunWrites, RefusalAnswers, RefusalWrites};
 
+use crate::line::refusal_line;
 use crate::load::{JobFault, load_job};
-use crate::refusal::Refusal;
 use crate::run::run;
-use crate::status::Status;
 use crate::write::write_all;
+use job_words::{Refusal, Status};
 use machine_core::Job;
 use std::alloc::Global;
+use ti_ids::End;
 use ti_port::{Sink, Store};
+
+/// The status of a run with this end. No thread ends by an exception yet.
+fn end_status(end: End) -> Status
+    ensures { result ≡ status_of_end end }
+{
+    match end {
+        End::Dead => Status::Done,
+        End::Stuck => Status::Stuck,
+        End::StepLimit | End::LineLimit | End::OutputLimit => Status::Limit,
+    }
+}
 
 /// Runs a job, and writes its report. The report is made before any of it is written.
 fn run_and_write<K: Sink>(alloc: Global, job: Job, sink: &mut K) -> Status
@@ -29,23 +41,28 @@ fn run_and_write<K: Sink>(alloc: Global, job: Job, sink: &mut K) -> Status
         Err(_) => Status::OutOfMemory,
         Ok((text, end)) => {
             if write_all(sink, &text) {
-                return Status::of_end(end);
+                return end_status(end);
             }
             Status::WriteFault
         }
     }
 }
 
-/// Writes the line of a refusal.
-fn refuse<K: Sink>(refusal: Refusal, sink: &mut K) -> Status
-    ensures answer { RefusalAnswers refusal result }
-    ensures written { Told (RefusalWrites refusal result) (K.held sink.old) (K.held sink.new) }
+/// Writes the line of a refusal. Memory is taken only for one that has the key of an agent file.
+fn refuse<K: Sink>(alloc: Global, refusal: &Refusal, sink: &mut K) -> Status
+    ensures answer { RefusalAnswers refusal.now result }
+    ensures written { Told (RefusalWrites refusal.now result) (K.held sink.old) (K.held sink.new) }
     ensures count { SinkCounts result (K.faults sink.old) (K.faults sink.new) }
 {
-    if write_all(sink, refusal.line().as_bytes()) {
-        return refusal.status();
+    match refusal_line(alloc, refusal) {
+        Err(_) => Status::OutOfMemory,
+        Ok(line) => {
+            if write_all(sink, line.as_bytes()) {
+                return refusal.status();
+            }
+            Status::WriteFault
+        }
     }
-    Status::WriteFault
 }
 
 /// Does what the words ask for, with one worker. It always returns. It ends in `OutOfMemory` only
@@ -93,7 +110,7 @@ pub fn host_one<S: Store, K: Sink>(
 {
     match load_job(alloc, words, store) {
         Ok(job) => run_and_write(alloc, job, sink),
-        Err(JobFault::Refused(refusal)) => refuse(refusal, sink),
+        Err(JobFault::Refused(refusal)) => refuse(alloc, &refusal, sink),
         Err(JobFault::Memory) => Status::OutOfMemory,
     }
 }

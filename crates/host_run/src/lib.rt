@@ -2,14 +2,12 @@
 //! one line that says why there is none, goes to a sink. Files come from any store.
 #![tactic(auto)]
 
-mod class_line;
 mod host;
+mod line;
 mod load;
-mod refusal;
 mod run;
-mod status;
 mod words;
 mod write;
 
 pub use host::host_one;
-pub use status::Status;
+pub use job_words::Status;

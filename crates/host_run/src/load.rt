@@ -5,16 +5,16 @@ ghost use Rattle.machine_model.specs.Results.{request_of, result_of, result_of_c
 ghost use Rattle.host_run.specs.Loads.{Checks, IsOfClass, Loads, LoadCounts};
 ghost use Rattle.host_run.specs.Words.{texts};
 
-use crate::refusal::Refusal;
 use crate::words::read_request;
 use classfile_read::{ReadClassFault, read_class};
+use job_words::{InputLimit, Refusal};
 use machine_core::Job;
 use std::alloc::Global;
 use ti_ids::Limits;
 use ti_port::{Fetched, Store};
 
 /// Why there is no job.
-#[derive(Clone, Copy, Debug, PartialEq, Eq)]
+#[derive(Drop, Debug)]
 pub enum JobFault {
     Refused(Refusal),
     Memory,
@@ -28,11 +28,15 @@ const LIMITS: Limits = Limits {
     slice: 1_000,
 };
 
-/// The most bytes that a class file may have.
-const CLASS_BYTES: u64 = 1_048_576;
+/// What is told of a class that the grammar accepts, and that cannot be run yet.
+const NOT_YET: ReadClassFault = ReadClassFault::Unsupported(0);
 
-/// A class that the grammar accepts, and that cannot be run yet.
-const NOT_YET: JobFault = JobFault::Refused(Refusal::BadClass(ReadClassFault::Unsupported(0)));
+/// The only class file, whose place is 1, has this fault.
+fn bad_class(fault: ReadClassFault) -> JobFault
+    ensures { result ≡ JobFault.Refused (Refusal.BadClass 1 fault) }
+{
+    JobFault::Refused(Refusal::BadClass(1, fault))
+}
 
 /// Reads a class file by the whole grammar, and keeps nothing of it.
 fn check_class(alloc: Global, bytes: &[u8]) -> Result<(), JobFault>
@@ -41,7 +45,7 @@ fn check_class(alloc: Global, bytes: &[u8]) -> Result<(), JobFault>
     match read_class(alloc, bytes) {
         Ok(_) => Ok(()),
         Err(ReadClassFault::Memory) => Err(JobFault::Memory),
-        Err(fault) => Err(JobFault::Refused(Refusal::BadClass(fault))),
+        Err(fault) => Err(bad_class(fault)),
     }
 }
 
@@ -56,9 +60,9 @@ fn first_job(alloc: Global, main: &str, bytes: Vec<u8>) -> Result<Job, JobFault>
             if class.name().is_text(main.as_bytes()) {
                 return Ok(Job::new(class, bytes, LIMITS));
             }
-            Err(NOT_YET)
+            Err(bad_class(NOT_YET))
         }
-        Err(first_form_read::ReadClassFault::Unsupported(_)) => Err(NOT_YET),
+        Err(first_form_read::ReadClassFault::Unsupported(_)) => Err(bad_class(NOT_YET)),
         Err(first_form_read::ReadClassFault::Memory) => Err(JobFault::Memory),
     }
 }
@@ -83,11 +87,15 @@ pub fn load_job<S: Store>(alloc: Global, words: &[String], store: &mut S) -> Res
     let Some(request) = read_request(words) else {
         return Err(JobFault::Refused(Refusal::Usage));
     };
-    match store.fetch(alloc, request.file, CLASS_BYTES) {
+    let most = u64::from(InputLimit::ClassBytes.most());
+    match store.fetch(alloc, request.file, most) {
         Ok(Fetched::Found(bytes)) => job_of(alloc, request.main, bytes),
-        Ok(Fetched::Absent) => Err(JobFault::Refused(Refusal::Absent)),
-        Ok(Fetched::TooLong) => Err(JobFault::Refused(Refusal::TooLarge)),
-        Ok(Fetched::Failed) => Err(JobFault::Refused(Refusal::ReadFault)),
+        Ok(Fetched::Absent) => Err(JobFault::Refused(Refusal::Absent(1))),
+        Ok(Fetched::TooLong) => Err(JobFault::Refused(Refusal::TooLarge(
+            InputLimit::ClassBytes,
+            1,
+        ))),
+        Ok(Fetched::Failed) => Err(JobFault::Refused(Refusal::ReadFault(1))),
         Err(_) => Err(JobFault::Memory),
     }
 }

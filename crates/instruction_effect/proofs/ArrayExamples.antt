@@ -20,7 +20,7 @@ use Rattle.java_heap.specs.declared.object.Content.TheVariants.{Elements}
 use Rattle.java_heap.specs.Objects.{fresh}
 use Rattle.link_versions.specs.declared.class.Element.{Element}
 use Rattle.link_versions.specs.declared.class.Element.TheVariants as element
-use Rattle.link_versions.specs.declared.class.InitState.TheVariants as states
+use Rattle.ti_ids.specs.declared.state.InitState.TheVariants as states
 use Rattle.link_versions.specs.Classes.{Class, OfArray}
 use Rattle.link_versions.specs.Subtypes.{type_of}
 use Rattle.machine_state.specs.Core.{Core, Thread, Pin}
@@ -79,7 +79,8 @@ module _ (core : Core) (thread : Thread) (pin : Pin) where
   abbrev holds : ℕ → ℕ → Act
   holds place n = Changes (PutsElement (record { 0 = 1 }) place (reference n))
 
-  multi-two_by_three : multi 14 (Int (pos 3) ∷ Int (pos 2) ∷ []) ≡ leaves (outer_class ∷ outer ∷ inner_class ∷ inner ∷ holds 0 2 ∷ inner ∷ holds 1 3 ∷ []) (reference 1 ∷ [])
+  multi-two_by_three : multi 14 (Int (pos 3) ∷ Int (pos 2) ∷ [])
+      ≡ leaves (outer_class ∷ outer ∷ inner_class ∷ inner ∷ holds 0 2 ∷ inner ∷ holds 1 3 ∷ []) (reference 1 ∷ [])
   unfolding class_end dimensions split_class split_dimensions read_class read_element read_type read_field type_of
   multi-two_by_three = refl
 
@@ -87,7 +88,8 @@ module _ (core : Core) (thread : Thread) (pin : Pin) where
   unfolding class_end dimensions split_class split_dimensions read_class read_element read_type read_field type_of
   multi-full = refl
 
-  multi-none : multi 13 (Int (pos 3) ∷ Int (pos 0) ∷ []) ≡ leaves (outer_class ∷ Changes (Makes (fresh (record { 0 = 1 }) (Elements []))) ∷ []) (reference 1 ∷ [])
+  multi-none : multi 13 (Int (pos 3) ∷ Int (pos 0) ∷ [])
+      ≡ leaves (outer_class ∷ Changes (Makes (fresh (record { 0 = 1 }) (Elements []))) ∷ []) (reference 1 ∷ [])
   unfolding class_end dimensions split_class split_dimensions read_class read_element read_type read_field type_of
   multi-none = refl
 
@@ -102,49 +104,61 @@ module _ (core : Core) (thread : Thread) (pin : Pin) where
   -- an instruction in the sight of an array of three elements of one kind, the first of which is this
   abbrev over : Element → Value → Simple → List Value → Outcome
   over e first simple entries =
-      array_outcome (at 64 (fresh (record { 0 = 1 }) (Elements (first ∷ first ∷ first ∷ [])) ∷ []) (vectors_of (codes "[?") e ∷ []) [] entries) (instr.Simple simple)
+      array_outcome
+      (at 64 (fresh (record { 0 = 1 }) (Elements (first ∷ first ∷ first ∷ [])) ∷ []) (vectors_of (codes "[?") e ∷ []) [] entries)
+      (instr.Simple simple)
 
   abbrev put : ℕ → Value → List Act
   put place v = Changes (PutsElement (record { 0 = 1 }) place v) ∷ []
 
   -- 3 in an array of boolean, 200 in one of byte, 65537 in one of char, 32768 in one of short
-  store-boolean : over element.Boolean (Int (pos 0)) (simple.ArrayStore of.Byte) (Int (pos 3) ∷ Int (pos 2) ∷ reference 1 ∷ []) ≡ leaves (put 2 (Int (pos 1))) []
+  store-boolean : over element.Boolean (Int (pos 0)) (simple.ArrayStore of.Byte) (Int (pos 3) ∷ Int (pos 2) ∷ reference 1 ∷ [])
+      ≡ leaves (put 2 (Int (pos 1))) []
   unfolding type_of int_wrap
   store-boolean = refl
 
-  store-byte : over element.Byte (Int (pos 0)) (simple.ArrayStore of.Byte) (Int (pos 200) ∷ Int (pos 1) ∷ reference 1 ∷ []) ≡ leaves (put 1 (Int (negsuc 55))) []
+  store-byte : over element.Byte (Int (pos 0)) (simple.ArrayStore of.Byte) (Int (pos 200) ∷ Int (pos 1) ∷ reference 1 ∷ [])
+      ≡ leaves (put 1 (Int (negsuc 55))) []
   unfolding type_of int_wrap
   store-byte = refl
 
-  store-char : over element.Char (Int (pos 0)) (simple.ArrayStore of.Char) (Int (pos 65537) ∷ Int (pos 0) ∷ reference 1 ∷ []) ≡ leaves (put 0 (Int (pos 1))) []
+  store-char : over element.Char (Int (pos 0)) (simple.ArrayStore of.Char) (Int (pos 65537) ∷ Int (pos 0) ∷ reference 1 ∷ [])
+      ≡ leaves (put 0 (Int (pos 1))) []
   unfolding type_of int_wrap
   store-char = refl
 
-  store-short : over element.Short (Int (pos 0)) (simple.ArrayStore of.Short) (Int (pos 32768) ∷ Int (pos 0) ∷ reference 1 ∷ []) ≡ leaves (put 0 (Int (negsuc 32767))) []
+  store-short : over element.Short (Int (pos 0)) (simple.ArrayStore of.Short) (Int (pos 32768) ∷ Int (pos 0) ∷ reference 1 ∷ [])
+      ≡ leaves (put 0 (Int (negsuc 32767))) []
   unfolding type_of int_wrap
   store-short = refl
 
-  store-long : over element.Long (Long (pos 0)) (simple.ArrayStore of.Long) (Long (pos 5000000000) ∷ Int (pos 0) ∷ reference 1 ∷ []) ≡ leaves (put 0 (Long (pos 5000000000))) []
+  store-long : over element.Long (Long (pos 0)) (simple.ArrayStore of.Long) (Long (pos 5000000000) ∷ Int (pos 0) ∷ reference 1 ∷ [])
+      ≡ leaves (put 0 (Long (pos 5000000000))) []
   unfolding type_of int_wrap
   store-long = refl
 
-  load-byte : over element.Boolean (Int (pos 1)) (simple.ArrayLoad of.Byte) (Int (pos 2) ∷ reference 1 ∷ Int (pos 9) ∷ []) ≡ leaves [] (Int (pos 1) ∷ Int (pos 9) ∷ [])
+  load-byte : over element.Boolean (Int (pos 1)) (simple.ArrayLoad of.Byte) (Int (pos 2) ∷ reference 1 ∷ Int (pos 9) ∷ [])
+      ≡ leaves [] (Int (pos 1) ∷ Int (pos 9) ∷ [])
   unfolding type_of
   load-byte = refl
 
-  load-out_of_range : over element.Int (Int (pos 1)) (simple.ArrayLoad of.Int) (Int (pos 3) ∷ reference 1 ∷ []) ≡ Throws [] (codes "java/lang/ArrayIndexOutOfBoundsException")
+  load-out_of_range : over element.Int (Int (pos 1)) (simple.ArrayLoad of.Int) (Int (pos 3) ∷ reference 1 ∷ [])
+      ≡ Throws [] (codes "java/lang/ArrayIndexOutOfBoundsException")
   unfolding type_of
   load-out_of_range = refl
 
-  load-below_range : over element.Int (Int (pos 1)) (simple.ArrayLoad of.Int) (Int (negsuc 0) ∷ reference 1 ∷ []) ≡ Throws [] (codes "java/lang/ArrayIndexOutOfBoundsException")
+  load-below_range : over element.Int (Int (pos 1)) (simple.ArrayLoad of.Int) (Int (negsuc 0) ∷ reference 1 ∷ [])
+      ≡ Throws [] (codes "java/lang/ArrayIndexOutOfBoundsException")
   unfolding type_of
   load-below_range = refl
 
-  load-null : over element.Int (Int (pos 1)) (simple.ArrayLoad of.Int) (Int (pos 3) ∷ Ref None ∷ []) ≡ Throws [] (codes "java/lang/NullPointerException")
+  load-null : over element.Int (Int (pos 1)) (simple.ArrayLoad of.Int) (Int (pos 3) ∷ Ref None ∷ [])
+      ≡ Throws [] (codes "java/lang/NullPointerException")
   unfolding type_of
   load-null = refl
 
-  load-of_another_kind : over element.Byte (Int (pos 1)) (simple.ArrayLoad of.Int) (Int (pos 9) ∷ reference 1 ∷ []) ≡ Throws [] (codes "java/lang/IncompatibleClassChangeError")
+  load-of_another_kind : over element.Byte (Int (pos 1)) (simple.ArrayLoad of.Int) (Int (pos 9) ∷ reference 1 ∷ [])
+      ≡ Throws [] (codes "java/lang/IncompatibleClassChangeError")
   unfolding type_of
   load-of_another_kind = refl
 

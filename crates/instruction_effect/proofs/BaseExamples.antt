@@ -12,21 +12,16 @@ use Rattle.ti_ids.specs.declared.value.Value.TheVariants.{Int, Ref}
 use Rattle.ti_ids.specs.declared.state.Announced.TheVariants.{New, No, Yes}
 use Rattle.ti_ids.specs.declared.state.ThreadState.TheVariants.{Entering, Running}
 use Rattle.jv_names.specs.Names.{Name}
-use Rattle.jv_names.specs.DescriptorReading.{class_end, dimensions, split_class, split_dimensions, read_class, read_element, read_type}
-use Rattle.jv_names.specs.DescriptorFlaws.{read_field, read_method, read_result}
 use Rattle.base_set.specs.BaseSet.{BaseClass, base_set, object as object_class, thread as thread_class, string as string_class}
 use Rattle.base_set.specs.BaseTrees.{base_tree}
 use Rattle.java_heap.specs.declared.object.Object.{Object}
 use Rattle.java_heap.specs.declared.object.Content.TheVariants.{Fields, Elements, Text}
 use Rattle.java_heap.specs.Objects.{fresh}
 use Rattle.thread_frames.specs.declared.frame.StackEntry.TheVariants.{Java}
-use Rattle.link_versions.specs.declared.class.InitState.TheVariants as states
-use Rattle.link_versions.specs.Classes.{Class, OfFile, first_version, version_at, version_count, class_has}
-use Rattle.link_versions.specs.Members.{declared_method, declared_virtual, method_at, method_name, method_desc, method_has}
-use Rattle.link_versions.specs.Orders.{lookup_order, superclasses}
-use Rattle.link_versions.specs.Subtypes.{type_of, is_element_below, is_array_below, is_type_below, is_subclass}
-use Rattle.link_versions.specs.Resolution.{candidate, candidates, is_overridden, concrete_ones, selected_by}
-use Rattle.machine_state.specs.Core.{Core, Thread, MethodFrame, Free, Waiting, Joining}
+use Rattle.ti_ids.specs.declared.state.InitState.TheVariants as states
+use Rattle.link_versions.specs.Classes.{Class, OfFile}
+use Rattle.ti_ids.specs.declared.state.Activity.TheVariants.{Free, Waiting, Joining}
+use Rattle.machine_state.specs.Core.{Core, Thread, MethodFrame}
 use Rattle.machine_state.specs.Trace.{MethodName, MonitorWait, VMObjectAlloc}
 use Rattle.machine_state.specs.Acts.{Act, Changes, Makes, GoesToWait, MakesThread, Prints, PutsBehind, Pushes, SetsActivity, SetsState, SetsTop, AddsClass, raises}
 use Rattle.instruction_effect.specs.Outcomes.{Site, Outcome, Goes, Throws, Fills}
@@ -35,6 +30,7 @@ use Rattle.instruction_effect.specs.BaseForms.{BaseCall}
 use Rattle.instruction_effect.specs.BaseObjects.{waits}
 use Rattle.instruction_effect.specs.BaseTexts.{int_text, string_text, char_at, appends, prints}
 use Rattle.instruction_effect.specs.CallEntry.{entry_outcome}
+use Rattle.instruction_effect.proofs.ExampleSites.{descriptors, members, resolution, subtypes}
 
 -- ---- the table: each base method that isn't abstract has a row, and there is no other row
 
@@ -60,7 +56,8 @@ m = record {
   interfaces = [];
   fields = [];
   methods =
-      record { flags = 0x0001; name = codes "run"; desc = codes "()V" } ∷ record { flags = 0x0009; name = codes "main"; desc = codes "([Ljava/lang/String;)V" }
+      record { flags = 0x0001; name = codes "run"; desc = codes "()V" }
+      ∷ record { flags = 0x0009; name = codes "main"; desc = codes "([Ljava/lang/String;)V" }
       ∷ [];
 }
 
@@ -114,7 +111,8 @@ module _ (core : Core) where
 
   -- where these arguments lie on the stack, the last on top
   abbrev at : ℕ → List Value → Site
-  at limit entries = record { core = core_of limit; classes = classes; t = me; thread = started (frame entries); frame = frame entries; pool = []; next = 7 }
+  at limit entries =
+      record { core = core_of limit; classes = classes; t = me; thread = started (frame entries); frame = frame entries; pool = []; next = 7 }
 
   abbrev call : ℕ → List Value → List Value → BaseCall
   call limit entries arguments = record { site = at limit entries; before = []; arguments = arguments }
@@ -126,42 +124,49 @@ module _ (core : Core) where
   abbrev leaves : List Act → List Value → Outcome
   leaves acts entries = Goes (acts ++ Changes (SetsTop me (gone_on entries)) ∷ [])
 
-  prints_int : prints int_text (10 ∷ []) (call 100 (Int (negsuc 4) ∷ reference 1 ∷ []) (reference 1 ∷ Int (negsuc 4) ∷ [])) (reference 1 ∷ Int (negsuc 4) ∷ []) ≡ leaves (Changes (Prints (codes "-5" ++ 10 ∷ [])) ∷ []) []
-  unfolding class_has first_version version_at version_count read_field read_method read_type read_result read_element read_class split_class class_end split_dimensions dimensions candidate candidates is_overridden concrete_ones superclasses lookup_order declared_method declared_virtual method_name method_desc method_has method_at selected_by type_of is_element_below is_array_below is_type_below is_subclass utf16_chars digits lib.Utf8.encode
+  prints_int : prints int_text (10 ∷ []) (call 100 (Int (negsuc 4) ∷ reference 1 ∷ []) (reference 1 ∷ Int (negsuc 4) ∷ []))
+      (reference 1 ∷ Int (negsuc 4) ∷ [])
+      ≡ leaves (Changes (Prints (codes "-5" ++ 10 ∷ [])) ∷ []) []
+  unfolding descriptors members resolution subtypes utf16_chars digits lib.Utf8.encode
   prints_int = refl
 
-  prints_null : prints string_text [] (call 100 (Ref None ∷ reference 1 ∷ []) (reference 1 ∷ Ref None ∷ [])) (reference 1 ∷ Ref None ∷ []) ≡ leaves (Changes (Prints (codes "null")) ∷ []) []
-  unfolding class_has first_version version_at version_count read_field read_method read_type read_result read_element read_class split_class class_end split_dimensions dimensions candidate candidates is_overridden concrete_ones superclasses lookup_order declared_method declared_virtual method_name method_desc method_has method_at selected_by type_of is_element_below is_array_below is_type_below is_subclass utf16_chars digits lib.Utf8.encode
+  prints_null : prints string_text [] (call 100 (Ref None ∷ reference 1 ∷ []) (reference 1 ∷ Ref None ∷ [])) (reference 1 ∷ Ref None ∷ [])
+      ≡ leaves (Changes (Prints (codes "null")) ∷ []) []
+  unfolding descriptors members resolution subtypes utf16_chars digits lib.Utf8.encode
   prints_null = refl
 
-  past_the_end : char_at (call 100 (Int (pos 2) ∷ reference 6 ∷ []) (reference 6 ∷ Int (pos 2) ∷ [])) (reference 6 ∷ Int (pos 2) ∷ []) ≡ Throws (Changes (SetsTop me (frame [])) ∷ []) (codes "java/lang/StringIndexOutOfBoundsException")
-  unfolding class_has first_version version_at version_count read_field read_method read_type read_result read_element read_class split_class class_end split_dimensions dimensions candidate candidates is_overridden concrete_ones superclasses lookup_order declared_method declared_virtual method_name method_desc method_has method_at selected_by type_of is_element_below is_array_below is_type_below is_subclass utf16_chars digits lib.Utf8.encode
+  past_the_end : char_at (call 100 (Int (pos 2) ∷ reference 6 ∷ []) (reference 6 ∷ Int (pos 2) ∷ [])) (reference 6 ∷ Int (pos 2) ∷ [])
+      ≡ Throws (Changes (SetsTop me (frame [])) ∷ []) (codes "java/lang/StringIndexOutOfBoundsException")
+  unfolding descriptors members resolution subtypes utf16_chars digits lib.Utf8.encode
   past_the_end = refl
 
   -- the objects take 16 words, and 5 would be more than the 20 that there are
-  no_room : appends int_text (call 20 (Int (pos 12345) ∷ reference 6 ∷ []) (reference 6 ∷ Int (pos 12345) ∷ [])) (reference 6 ∷ Int (pos 12345) ∷ []) ≡ Fills (Changes (SetsTop me (frame [])) ∷ [])
-  unfolding class_has first_version version_at version_count read_field read_method read_type read_result read_element read_class split_class class_end split_dimensions dimensions candidate candidates is_overridden concrete_ones superclasses lookup_order declared_method declared_virtual method_name method_desc method_has method_at selected_by type_of is_element_below is_array_below is_type_below is_subclass utf16_chars digits lib.Utf8.encode
+  no_room : appends int_text (call 20 (Int (pos 12345) ∷ reference 6 ∷ []) (reference 6 ∷ Int (pos 12345) ∷ []))
+      (reference 6 ∷ Int (pos 12345) ∷ [])
+      ≡ Fills (Changes (SetsTop me (frame [])) ∷ [])
+  unfolding descriptors members resolution subtypes utf16_chars digits lib.Utf8.encode
   no_room = refl
 
-  just_room : appends int_text (call 20 (Int (pos 1234) ∷ reference 6 ∷ []) (reference 6 ∷ Int (pos 1234) ∷ [])) (reference 6 ∷ Int (pos 1234) ∷ []) ≡ leaves (Changes (PutsBehind (record { 0 = 6 }) (codes "1234")) ∷ []) (reference 6 ∷ [])
-  unfolding class_has first_version version_at version_count read_field read_method read_type read_result read_element read_class split_class class_end split_dimensions dimensions candidate candidates is_overridden concrete_ones superclasses lookup_order declared_method declared_virtual method_name method_desc method_has method_at selected_by type_of is_element_below is_array_below is_type_below is_subclass utf16_chars digits lib.Utf8.encode
+  just_room : appends int_text (call 20 (Int (pos 1234) ∷ reference 6 ∷ []) (reference 6 ∷ Int (pos 1234) ∷ [])) (reference 6 ∷ Int (pos 1234) ∷ [])
+      ≡ leaves (Changes (PutsBehind (record { 0 = 6 }) (codes "1234")) ∷ []) (reference 6 ∷ [])
+  unfolding descriptors members resolution subtypes utf16_chars digits lib.Utf8.encode
   just_room = refl
 
   starts_twice : on 2 1 ≡ Throws (Changes (SetsTop me (frame [])) ∷ []) (codes "java/lang/IllegalThreadStateException")
-  unfolding class_has first_version version_at version_count read_field read_method read_type read_result read_element read_class split_class class_end split_dimensions dimensions candidate candidates is_overridden concrete_ones superclasses lookup_order declared_method declared_virtual method_name method_desc method_has method_at selected_by type_of is_element_below is_array_below is_type_below is_subclass utf16_chars digits lib.Utf8.encode
+  unfolding descriptors members resolution subtypes utf16_chars digits lib.Utf8.encode
   starts_twice = refl
 
   starts_one : on 2 7 ≡ leaves (Changes (MakesThread (record { 0 = 7 })) ∷ []) []
-  unfolding class_has first_version version_at version_count read_field read_method read_type read_result read_element read_class split_class class_end split_dimensions dimensions candidate candidates is_overridden concrete_ones superclasses lookup_order declared_method declared_virtual method_name method_desc method_has method_at selected_by type_of is_element_below is_array_below is_type_below is_subclass utf16_chars digits lib.Utf8.encode
+  unfolding descriptors members resolution subtypes utf16_chars digits lib.Utf8.encode
   starts_one = refl
 
   -- an M is no Thread
   wrong_receiver : on 2 5 ≡ Throws [] (codes "java/lang/IncompatibleClassChangeError")
-  unfolding class_has first_version version_at version_count read_field read_method read_type read_result read_element read_class split_class class_end split_dimensions dimensions candidate candidates is_overridden concrete_ones superclasses lookup_order declared_method declared_virtual method_name method_desc method_has method_at selected_by type_of is_element_below is_array_below is_type_below is_subclass utf16_chars digits lib.Utf8.encode
+  unfolding descriptors members resolution subtypes utf16_chars digits lib.Utf8.encode
   wrong_receiver = refl
 
   in_a_circle : on 3 2 ≡ leaves [] []
-  unfolding class_has first_version version_at version_count read_field read_method read_type read_result read_element read_class split_class class_end split_dimensions dimensions candidate candidates is_overridden concrete_ones superclasses lookup_order declared_method declared_virtual method_name method_desc method_has method_at selected_by type_of is_element_below is_array_below is_type_below is_subclass utf16_chars digits lib.Utf8.encode
+  unfolding descriptors members resolution subtypes utf16_chars digits lib.Utf8.encode
   in_a_circle = refl
 
   abbrev pushes_run : Act
@@ -176,25 +181,37 @@ module _ (core : Core) where
   }))
 
   runs_target : on 3 4 ≡ Goes (Changes (SetsTop me (frame [])) ∷ pushes_run ∷ [])
-  unfolding class_has first_version version_at version_count read_field read_method read_type read_result read_element read_class split_class class_end split_dimensions dimensions candidate candidates is_overridden concrete_ones superclasses lookup_order declared_method declared_virtual method_name method_desc method_has method_at selected_by type_of is_element_below is_array_below is_type_below is_subclass utf16_chars digits lib.Utf8.encode
+  unfolding descriptors members resolution subtypes utf16_chars digits lib.Utf8.encode
   runs_target = refl
 
   joins_itself : on 4 1 ≡ Goes (Changes (SetsActivity me (Joining me)) ∷ [])
-  unfolding class_has first_version version_at version_count read_field read_method read_type read_result read_element read_class split_class class_end split_dimensions dimensions candidate candidates is_overridden concrete_ones superclasses lookup_order declared_method declared_virtual method_name method_desc method_has method_at selected_by type_of is_element_below is_array_below is_type_below is_subclass utf16_chars digits lib.Utf8.encode
+  unfolding descriptors members resolution subtypes utf16_chars digits lib.Utf8.encode
   joins_itself = refl
 
   joins_none : on 4 7 ≡ leaves [] []
-  unfolding class_has first_version version_at version_count read_field read_method read_type read_result read_element read_class split_class class_end split_dimensions dimensions candidate candidates is_overridden concrete_ones superclasses lookup_order declared_method declared_virtual method_name method_desc method_has method_at selected_by type_of is_element_below is_array_below is_type_below is_subclass utf16_chars digits lib.Utf8.encode
+  unfolding descriptors members resolution subtypes utf16_chars digits lib.Utf8.encode
   joins_none = refl
 
-  waits_unowned : waits (call 100 (reference 1 ∷ []) (reference 1 ∷ [])) (reference 1 ∷ []) ≡ Throws (Changes (SetsTop me (frame [])) ∷ []) (codes "java/lang/IllegalMonitorStateException")
-  unfolding class_has first_version version_at version_count read_field read_method read_type read_result read_element read_class split_class class_end split_dimensions dimensions candidate candidates is_overridden concrete_ones superclasses lookup_order declared_method declared_virtual method_name method_desc method_has method_at selected_by type_of is_element_below is_array_below is_type_below is_subclass utf16_chars digits lib.Utf8.encode
+  waits_unowned : waits (call 100 (reference 1 ∷ []) (reference 1 ∷ [])) (reference 1 ∷ [])
+      ≡ Throws (Changes (SetsTop me (frame [])) ∷ []) (codes "java/lang/IllegalMonitorStateException")
+  unfolding descriptors members resolution subtypes utf16_chars digits lib.Utf8.encode
   waits_unowned = refl
 
   -- the owner of the monitor of object 1 waits, and its argument stays
-  waits_owned : waits (record { site = record (at 100 (reference 1 ∷ [])) { core = record (core_of 100) { monitors = record { object = record { 0 = 1 }; monitor = record { owner = Some me; entries = 2; notified = []; waiting = [] } } ∷ [] } }; before = []; arguments = reference 1 ∷ [] }) (reference 1 ∷ [])
-      ≡ Goes (Changes (GoesToWait (record { 0 = 1 }) me) ∷ Changes (SetsActivity me (Waiting (record { 0 = 1 }))) ∷ raises (MonitorWait me (record { 0 = 1 })) ∷ [])
-  unfolding class_has first_version version_at version_count read_field read_method read_type read_result read_element read_class split_class class_end split_dimensions dimensions candidate candidates is_overridden concrete_ones superclasses lookup_order declared_method declared_virtual method_name method_desc method_has method_at selected_by type_of is_element_below is_array_below is_type_below is_subclass utf16_chars digits lib.Utf8.encode
+  waits_owned : waits (record {
+    site = record (at 100 (reference 1 ∷ [])) {
+      core = record (core_of 100) {
+        monitors = record { object = record { 0 = 1 }; monitor = record { owner = Some me; entries = 2; notified = []; waiting = [] } } ∷ [];
+      };
+    };
+    before = [];
+    arguments = reference 1 ∷ [];
+  }) (reference 1 ∷ [])
+      ≡ Goes (
+      Changes (GoesToWait (record { 0 = 1 }) me) ∷ Changes (SetsActivity me (Waiting (record { 0 = 1 })))
+      ∷ raises (MonitorWait me (record { 0 = 1 })) ∷ []
+      )
+  unfolding descriptors members resolution subtypes utf16_chars digits lib.Utf8.encode
   waits_owned = refl
 
   -- ---- entries
@@ -215,25 +232,27 @@ module _ (core : Core) where
         stack = record { entries = []; room = 1 };
         announced = New;
       })) ∷ [])
-  unfolding class_has first_version version_at version_count read_field read_method read_type read_result read_element read_class split_class class_end split_dimensions dimensions candidate candidates is_overridden concrete_ones superclasses lookup_order declared_method declared_virtual method_name method_desc method_has method_at selected_by type_of is_element_below is_array_below is_type_below is_subclass utf16_chars digits lib.Utf8.encode
+  unfolding descriptors members resolution subtypes utf16_chars digits lib.Utf8.encode
   enters_main = refl
 
   without_main : entry_outcome (core_of 100) classes me (entering 1 0) (codes "java/lang/Object") ≡ Throws [] (codes "java/lang/NoSuchMethodError")
-  unfolding class_has first_version version_at version_count read_field read_method read_type read_result read_element read_class split_class class_end split_dimensions dimensions candidate candidates is_overridden concrete_ones superclasses lookup_order declared_method declared_virtual method_name method_desc method_has method_at selected_by type_of is_element_below is_array_below is_type_below is_subclass utf16_chars digits lib.Utf8.encode
+  unfolding descriptors members resolution subtypes utf16_chars digits lib.Utf8.encode
   without_main = refl
 
-  enters_run : entry_outcome (core_of 100) classes (record { 0 = 2 }) (entering 4 0) (codes "M") ≡ Goes (Changes (SetsState (record { 0 = 2 }) Running) ∷ Changes (Pushes (record { 0 = 2 }) (record {
-    class = record { 0 = 3 };
-    method = record { class = record { 0 = 3 }; place = 0 };
-    pin = record { birth = 0; monitor = None };
-    pc = 0;
-    locals = reference 5 ∷ [];
-    stack = record { entries = []; room = 1 };
-    announced = New;
-  })) ∷ [])
-  unfolding class_has first_version version_at version_count read_field read_method read_type read_result read_element read_class split_class class_end split_dimensions dimensions candidate candidates is_overridden concrete_ones superclasses lookup_order declared_method declared_virtual method_name method_desc method_has method_at selected_by type_of is_element_below is_array_below is_type_below is_subclass utf16_chars digits lib.Utf8.encode
+  enters_run : entry_outcome (core_of 100) classes (record { 0 = 2 }) (entering 4 0) (codes "M")
+      ≡ Goes (Changes (SetsState (record { 0 = 2 }) Running) ∷ Changes (Pushes (record { 0 = 2 }) (record {
+        class = record { 0 = 3 };
+        method = record { class = record { 0 = 3 }; place = 0 };
+        pin = record { birth = 0; monitor = None };
+        pc = 0;
+        locals = reference 5 ∷ [];
+        stack = record { entries = []; room = 1 };
+        announced = New;
+      })) ∷ [])
+  unfolding descriptors members resolution subtypes utf16_chars digits lib.Utf8.encode
   enters_run = refl
 
-  enters_nothing : entry_outcome (core_of 100) classes (record { 0 = 2 }) (entering 7 0) (codes "M") ≡ Goes (Changes (SetsState (record { 0 = 2 }) Running) ∷ [])
-  unfolding class_has first_version version_at version_count read_field read_method read_type read_result read_element read_class split_class class_end split_dimensions dimensions candidate candidates is_overridden concrete_ones superclasses lookup_order declared_method declared_virtual method_name method_desc method_has method_at selected_by type_of is_element_below is_array_below is_type_below is_subclass utf16_chars digits lib.Utf8.encode
+  enters_nothing : entry_outcome (core_of 100) classes (record { 0 = 2 }) (entering 7 0) (codes "M")
+      ≡ Goes (Changes (SetsState (record { 0 = 2 }) Running) ∷ [])
+  unfolding descriptors members resolution subtypes utf16_chars digits lib.Utf8.encode
   enters_nothing = refl

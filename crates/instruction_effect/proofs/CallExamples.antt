@@ -21,20 +21,16 @@ use Rattle.base_set.specs.BaseTrees.{base_tree}
 use Rattle.java_heap.specs.declared.object.Content.TheVariants.{Fields, ClassObject}
 use Rattle.java_heap.specs.Objects.{fresh}
 use Rattle.thread_frames.specs.declared.frame.StackEntry.TheVariants.{Java, Init}
-use Rattle.link_versions.specs.declared.class.InitState.TheVariants as states
-use Rattle.link_versions.specs.Classes.{Class, OfFile, first_version, version_at, version_count, class_has}
-use Rattle.jv_names.specs.DescriptorReading.{class_end, dimensions, split_class, split_dimensions, read_class, read_element, read_type}
-use Rattle.jv_names.specs.DescriptorFlaws.{read_field, read_method, read_result}
-use Rattle.link_versions.specs.Members.{declared_method, declared_virtual, method_at, method_name, method_desc, method_has}
-use Rattle.link_versions.specs.Orders.{lookup_order, superclasses}
-use Rattle.link_versions.specs.Subtypes.{type_of, is_element_below, is_array_below, is_type_below, is_subclass}
-use Rattle.link_versions.specs.Resolution.{resolved_method, from_superclasses, from_superinterfaces, from_object, candidate, candidates, is_overridden, concrete_ones, selected, selected_by}
-use Rattle.machine_state.specs.Core.{ObjectMonitor, Core, Thread, MethodFrame, StackFrame, Free, Wanting}
+use Rattle.ti_ids.specs.declared.state.InitState.TheVariants as states
+use Rattle.link_versions.specs.Classes.{Class, OfFile}
+use Rattle.ti_ids.specs.declared.state.Activity.TheVariants.{Free, Wanting}
+use Rattle.machine_state.specs.Core.{ObjectMonitor, Core, Thread, MethodFrame, StackFrame}
 use Rattle.machine_state.specs.Trace.{VMObjectAlloc, MethodExit, FramePop, Returned, MonitorContendedEnter}
 use Rattle.machine_state.specs.Acts.{Act, Changes, Makes, Enters, Pops, Pushes, SetsTop, raises, SetsActivity}
 use Rattle.instruction_effect.specs.Outcomes.{Site, Outcome, Goes, Throws, NeedsLoad}
 use Rattle.instruction_effect.specs.Calls.{call_outcome}
 use Rattle.instruction_effect.specs.Returns.{return_outcome}
+use Rattle.instruction_effect.proofs.ExampleSites.{descriptors, members, resolution, subtypes}
 
 -- ---- classes: 1 is Object, 2 is A, and 3 is B, which extends A
 
@@ -132,28 +128,33 @@ module _ (core : Core) where
 
   -- The Class object of A is made, and its monitor entered.
   static_synchronized : calls pool_op.InvokeStatic 6 (Int (pos 3) ∷ Long (pos 5) ∷ reference 1 ∷ []) ≡ Goes (
-      Changes (Makes (fresh (record { 0 = 6 }) (ClassObject (record { 0 = 2 })))) ∷ raises (VMObjectAlloc me (record { 0 = 3 }) (codes "java/lang/Class"))
+      Changes (Makes (fresh (record { 0 = 6 }) (ClassObject (record { 0 = 2 }))))
+      ∷ raises (VMObjectAlloc me (record { 0 = 3 }) (codes "java/lang/Class"))
       ∷ Changes (Enters (record { 0 = 3 }) me) ∷ Changes (SetsTop me (frame (reference 1 ∷ [])))
       ∷ pushed 0 (Some (record { 0 = 3 })) (Long (pos 5) ∷ Int (pos 0) ∷ Int (pos 3) ∷ []) ∷ [])
-  unfolding class_has first_version version_at version_count read_field read_method read_type read_result read_element read_class split_class class_end split_dimensions dimensions resolved_method from_superclasses from_superinterfaces from_object candidate candidates is_overridden concrete_ones superclasses lookup_order declared_method declared_virtual method_name method_desc method_has method_at selected selected_by type_of is_element_below is_array_below is_type_below is_subclass
+  unfolding descriptors members resolution subtypes
   static_synchronized = refl
 
   few_operands : calls pool_op.InvokeStatic 6 (Int (pos 3) ∷ []) ≡ Throws [] (codes "java/lang/InternalError")
-  unfolding class_has first_version version_at version_count read_field read_method read_type read_result read_element read_class split_class class_end split_dimensions dimensions resolved_method from_superclasses from_superinterfaces from_object candidate candidates is_overridden concrete_ones superclasses lookup_order declared_method declared_virtual method_name method_desc method_has method_at selected selected_by type_of is_element_below is_array_below is_type_below is_subclass
+  unfolding descriptors members resolution subtypes
   few_operands = refl
 
   virtual_synchronized : calls pool_op.InvokeVirtual 10 (reference 1 ∷ []) ≡ Goes (
       Changes (Enters (record { 0 = 1 }) me) ∷ Changes (SetsTop me (frame [])) ∷ pushed 1 (Some (record { 0 = 1 })) (reference 1 ∷ []) ∷ [])
-  unfolding class_has first_version version_at version_count read_field read_method read_type read_result read_element read_class split_class class_end split_dimensions dimensions resolved_method from_superclasses from_superinterfaces from_object candidate candidates is_overridden concrete_ones superclasses lookup_order declared_method declared_virtual method_name method_desc method_has method_at selected selected_by type_of is_element_below is_array_below is_type_below is_subclass
+  unfolding descriptors members resolution subtypes
   virtual_synchronized = refl
 
   abbrev site_with : List ObjectMonitor → Site
-  site_with monitors = record (at (frame (reference 1 ∷ [])) []) { core = record (core_of (thread (frame (reference 1 ∷ [])) [])) { monitors = monitors } }
+  site_with monitors =
+      record (at (frame (reference 1 ∷ [])) []) { core = record (core_of (thread (frame (reference 1 ∷ [])) [])) { monitors = monitors } }
 
   -- Another thread owns the monitor of object 1.
-  contended : call_outcome (site_with (record { object = record { 0 = 1 }; monitor = record { owner = Some (record { 0 = 2 }); entries = 1; notified = []; waiting = [] } } ∷ [])) (instr.Pool pool_op.InvokeVirtual 10)
+  contended : call_outcome (site_with (record {
+    object = record { 0 = 1 };
+    monitor = record { owner = Some (record { 0 = 2 }); entries = 1; notified = []; waiting = [] };
+  } ∷ [])) (instr.Pool pool_op.InvokeVirtual 10)
       ≡ Goes (raises (MonitorContendedEnter me (record { 0 = 1 })) ∷ Changes (SetsActivity me (Wanting (record { 0 = 1 }))) ∷ [])
-  unfolding class_has first_version version_at version_count read_field read_method read_type read_result read_element read_class split_class class_end split_dimensions dimensions resolved_method from_superclasses from_superinterfaces from_object candidate candidates is_overridden concrete_ones superclasses lookup_order declared_method declared_virtual method_name method_desc method_has method_at selected selected_by type_of is_element_below is_array_below is_type_below is_subclass
+  unfolding descriptors members resolution subtypes
   contended = refl
 
   -- a B has its own `g`
@@ -168,38 +169,39 @@ module _ (core : Core) where
         stack = record { entries = []; room = 1 };
         announced = New;
       })) ∷ [])
-  unfolding class_has first_version version_at version_count read_field read_method read_type read_result read_element read_class split_class class_end split_dimensions dimensions resolved_method from_superclasses from_superinterfaces from_object candidate candidates is_overridden concrete_ones superclasses lookup_order declared_method declared_virtual method_name method_desc method_has method_at selected selected_by type_of is_element_below is_array_below is_type_below is_subclass
+  unfolding descriptors members resolution subtypes
   overridden = refl
 
   -- of B's superclass, also on a B
   super_call : calls pool_op.InvokeSpecial 10 (reference 2 ∷ []) ≡ Goes (
       Changes (Enters (record { 0 = 2 }) me) ∷ Changes (SetsTop me (frame [])) ∷ pushed 1 (Some (record { 0 = 2 })) (reference 2 ∷ []) ∷ [])
-  unfolding class_has first_version version_at version_count read_field read_method read_type read_result read_element read_class split_class class_end split_dimensions dimensions resolved_method from_superclasses from_superinterfaces from_object candidate candidates is_overridden concrete_ones superclasses lookup_order declared_method declared_virtual method_name method_desc method_has method_at selected selected_by type_of is_element_below is_array_below is_type_below is_subclass
+  unfolding descriptors members resolution subtypes
   super_call = refl
 
   null_receiver : calls pool_op.InvokeVirtual 10 (Ref None ∷ []) ≡ Throws [] (codes "java/lang/NullPointerException")
-  unfolding class_has first_version version_at version_count read_field read_method read_type read_result read_element read_class split_class class_end split_dimensions dimensions resolved_method from_superclasses from_superinterfaces from_object candidate candidates is_overridden concrete_ones superclasses lookup_order declared_method declared_virtual method_name method_desc method_has method_at selected selected_by type_of is_element_below is_array_below is_type_below is_subclass
+  unfolding descriptors members resolution subtypes
   null_receiver = refl
 
   not_static : calls pool_op.InvokeStatic 10 [] ≡ Throws [] (codes "java/lang/IncompatibleClassChangeError")
-  unfolding class_has first_version version_at version_count read_field read_method read_type read_result read_element read_class split_class class_end split_dimensions dimensions resolved_method from_superclasses from_superinterfaces from_object candidate candidates is_overridden concrete_ones superclasses lookup_order declared_method declared_virtual method_name method_desc method_has method_at selected selected_by type_of is_element_below is_array_below is_type_below is_subclass
+  unfolding descriptors members resolution subtypes
   not_static = refl
 
-  no_interface : call_outcome (at (frame (reference 1 ∷ [])) []) (instr.InvokeInterface 11 1) ≡ Throws [] (codes "java/lang/IncompatibleClassChangeError")
-  unfolding class_has first_version version_at version_count read_field read_method read_type read_result read_element read_class split_class class_end split_dimensions dimensions resolved_method from_superclasses from_superinterfaces from_object candidate candidates is_overridden concrete_ones superclasses lookup_order declared_method declared_virtual method_name method_desc method_has method_at selected selected_by type_of is_element_below is_array_below is_type_below is_subclass
+  no_interface : call_outcome (at (frame (reference 1 ∷ [])) []) (instr.InvokeInterface 11 1)
+      ≡ Throws [] (codes "java/lang/IncompatibleClassChangeError")
+  unfolding descriptors members resolution subtypes
   no_interface = refl
 
   is_abstract : calls pool_op.InvokeStatic 14 [] ≡ Throws [] (codes "java/lang/AbstractMethodError")
-  unfolding class_has first_version version_at version_count read_field read_method read_type read_result read_element read_class split_class class_end split_dimensions dimensions resolved_method from_superclasses from_superinterfaces from_object candidate candidates is_overridden concrete_ones superclasses lookup_order declared_method declared_virtual method_name method_desc method_has method_at selected selected_by type_of is_element_below is_array_below is_type_below is_subclass
+  unfolding descriptors members resolution subtypes
   is_abstract = refl
 
   needs_load : calls pool_op.InvokeStatic 21 [] ≡ NeedsLoad (codes "X")
-  unfolding class_has first_version version_at version_count read_field read_method read_type read_result read_element read_class split_class class_end split_dimensions dimensions resolved_method from_superclasses from_superinterfaces from_object candidate candidates is_overridden concrete_ones superclasses lookup_order declared_method declared_virtual method_name method_desc method_has method_at selected selected_by type_of is_element_below is_array_below is_type_below is_subclass
+  unfolding descriptors members resolution subtypes
   needs_load = refl
 
   base_method : calls pool_op.InvokeVirtual 18 (reference 2 ∷ Int (pos 9) ∷ []) ≡ Goes (
       Changes (SetsTop me (record (frame (Int (pos 2) ∷ Int (pos 9) ∷ [])) { pc = 7; announced = No })) ∷ [])
-  unfolding class_has first_version version_at version_count read_field read_method read_type read_result read_element read_class split_class class_end split_dimensions dimensions resolved_method from_superclasses from_superinterfaces from_object candidate candidates is_overridden concrete_ones superclasses lookup_order declared_method declared_virtual method_name method_desc method_has method_at selected selected_by type_of is_element_below is_array_below is_type_below is_subclass
+  unfolding descriptors members resolution subtypes
   base_method = refl
 
   -- with these further frames beneath, a call of `A.f`, and one of `B.g`
@@ -208,7 +210,7 @@ module _ (core : Core) where
 
   -- The 1,025th frame is refused, and no Class object made.
   too_many_frames : calls_over (replicate 1023 (Init (record { 0 = 1 }))) ≡ Throws [] (codes "java/lang/StackOverflowError")
-  unfolding class_has first_version version_at version_count read_field read_method read_type read_result read_element read_class split_class class_end split_dimensions dimensions resolved_method from_superclasses from_superinterfaces from_object candidate candidates is_overridden concrete_ones superclasses lookup_order declared_method declared_virtual method_name method_desc method_has method_at selected selected_by type_of is_element_below is_array_below is_type_below is_subclass
+  unfolding descriptors members resolution subtypes
   too_many_frames = refl
 
   abbrev large : ℕ → StackFrame
@@ -216,14 +218,15 @@ module _ (core : Core) where
 
   -- The call takes 4 words, and the frame on top 10.
   too_many_words : calls_over (large 131070 ∷ large 131061 ∷ []) ≡ Throws [] (codes "java/lang/StackOverflowError")
-  unfolding class_has first_version version_at version_count read_field read_method read_type read_result read_element read_class split_class class_end split_dimensions dimensions resolved_method from_superclasses from_superinterfaces from_object candidate candidates is_overridden concrete_ones superclasses lookup_order declared_method declared_virtual method_name method_desc method_has method_at selected selected_by type_of is_element_below is_array_below is_type_below is_subclass
+  unfolding descriptors members resolution subtypes
   too_many_words = refl
 
   all_words : calls_over (large 131070 ∷ large 131060 ∷ []) ≡ Goes (
-      Changes (Makes (fresh (record { 0 = 6 }) (ClassObject (record { 0 = 2 })))) ∷ raises (VMObjectAlloc me (record { 0 = 3 }) (codes "java/lang/Class"))
+      Changes (Makes (fresh (record { 0 = 6 }) (ClassObject (record { 0 = 2 }))))
+      ∷ raises (VMObjectAlloc me (record { 0 = 3 }) (codes "java/lang/Class"))
       ∷ Changes (Enters (record { 0 = 3 }) me) ∷ Changes (SetsTop me (frame []))
       ∷ pushed 0 (Some (record { 0 = 3 })) (Long (pos 5) ∷ Int (pos 0) ∷ Int (pos 3) ∷ []) ∷ [])
-  unfolding class_has first_version version_at version_count read_field read_method read_type read_result read_element read_class split_class class_end split_dimensions dimensions resolved_method from_superclasses from_superinterfaces from_object candidate candidates is_overridden concrete_ones superclasses lookup_order declared_method declared_virtual method_name method_desc method_has method_at selected selected_by type_of is_element_below is_array_below is_type_below is_subclass
+  unfolding descriptors members resolution subtypes
   all_words = refl
 
   -- ---- returns of `B.g` and of `A.f`
@@ -235,23 +238,29 @@ module _ (core : Core) where
       Changes (Pops me) ∷ Changes (SetsTop me (record (frame (reference 1 ∷ [])) { pc = 7; announced = No }))
       ∷ raises (MethodExit me (record { class = codes "B"; name = codes "g"; desc = codes "()V" }) Returned)
       ∷ raises (FramePop me (record { class = codes "B"; name = codes "g"; desc = codes "()V" }) Returned 7) ∷ [])
-  unfolding class_has first_version version_at version_count read_field read_method read_type read_result read_element read_class split_class class_end split_dimensions dimensions resolved_method from_superclasses from_superinterfaces from_object candidate candidates is_overridden concrete_ones superclasses lookup_order declared_method declared_virtual method_name method_desc method_has method_at selected selected_by type_of is_element_below is_array_below is_type_below is_subclass
+  unfolding descriptors members resolution subtypes
   void_return = refl
 
   wrong_kind : returns_from (frame (Int (pos 1) ∷ [])) [] (instr.Simple (simple.Return kind.Int)) ≡ Throws [] (codes "java/lang/InternalError")
-  unfolding class_has first_version version_at version_count read_field read_method read_type read_result read_element read_class split_class class_end split_dimensions dimensions resolved_method from_superclasses from_superinterfaces from_object candidate candidates is_overridden concrete_ones superclasses lookup_order declared_method declared_virtual method_name method_desc method_has method_at selected selected_by type_of is_element_below is_array_below is_type_below is_subclass
+  unfolding descriptors members resolution subtypes
   wrong_kind = refl
 
   abbrev in_f : Option ObjNo → List Value → MethodFrame
-  in_f monitor entries = record (frame entries) { class = record { 0 = 2 }; method = record { class = record { 0 = 2 }; place = 0 }; pin = record { birth = 9; monitor = monitor } }
+  in_f monitor entries =
+      record (frame entries) {
+        class = record { 0 = 2 };
+        method = record { class = record { 0 = 2 }; place = 0 };
+        pin = record { birth = 9; monitor = monitor };
+      }
 
   long_return : returns_from (in_f None (Long (pos 8) ∷ [])) (Java (frame []) ∷ []) (instr.Simple (simple.Return kind.Long)) ≡ Goes (
       Changes (Pops me) ∷ Changes (SetsTop me (record (frame (Long (pos 8) ∷ [])) { pc = 7; announced = No }))
       ∷ raises (MethodExit me (record { class = codes "A"; name = codes "f"; desc = codes "(JI)J" }) Returned)
       ∷ raises (FramePop me (record { class = codes "A"; name = codes "f"; desc = codes "(JI)J" }) Returned 9) ∷ [])
-  unfolding class_has first_version version_at version_count read_field read_method read_type read_result read_element read_class split_class class_end split_dimensions dimensions resolved_method from_superclasses from_superinterfaces from_object candidate candidates is_overridden concrete_ones superclasses lookup_order declared_method declared_virtual method_name method_desc method_has method_at selected selected_by type_of is_element_below is_array_below is_type_below is_subclass
+  unfolding descriptors members resolution subtypes
   long_return = refl
 
-  not_owned : returns_from (in_f (Some (record { 0 = 1 })) (Long (pos 8) ∷ [])) [] (instr.Simple (simple.Return kind.Long)) ≡ Throws [] (codes "java/lang/IllegalMonitorStateException")
-  unfolding class_has first_version version_at version_count read_field read_method read_type read_result read_element read_class split_class class_end split_dimensions dimensions resolved_method from_superclasses from_superinterfaces from_object candidate candidates is_overridden concrete_ones superclasses lookup_order declared_method declared_virtual method_name method_desc method_has method_at selected selected_by type_of is_element_below is_array_below is_type_below is_subclass
+  not_owned : returns_from (in_f (Some (record { 0 = 1 })) (Long (pos 8) ∷ [])) [] (instr.Simple (simple.Return kind.Long))
+      ≡ Throws [] (codes "java/lang/IllegalMonitorStateException")
+  unfolding descriptors members resolution subtypes
   not_owned = refl

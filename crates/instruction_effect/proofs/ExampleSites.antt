@@ -5,10 +5,40 @@ use Rattle.ti_ids.specs.declared.value.Value.{Value}
 use Rattle.ti_ids.specs.declared.value.Value.TheVariants.{Ref}
 use Rattle.class_tree.specs.declared.pool.Const.{Const}
 use Rattle.java_heap.specs.declared.object.Object.{Object}
-use Rattle.link_versions.specs.Classes.{Class}
 use Rattle.machine_state.specs.Core.{Core, Thread, MethodFrame, Pin}
 use Rattle.machine_state.specs.Acts.{Act, Changes, SetsTop}
 use Rattle.instruction_effect.specs.Outcomes.{Site, Outcome, Goes}
+use Rattle.jv_names.specs.DescriptorReading.{class_end, dimensions, split_class, split_dimensions, read_class, read_element, read_type}
+use Rattle.jv_names.specs.DescriptorFlaws.{read_field, read_method, read_result}
+use Rattle.link_versions.specs.Classes.{Class, first_version, version_at, version_count, class_has}
+use Rattle.link_versions.specs.Members.{declared_method, declared_virtual, method_at, method_name, method_desc, method_has}
+use Rattle.link_versions.specs.Orders.{lookup_order, superclasses}
+use Rattle.link_versions.specs.Subtypes.{type_of, is_element_below, is_array_below, is_type_below, is_subclass}
+use Rattle.link_versions.specs.Resolution.{candidate, candidates, is_overridden, concrete_ones, selected_by, resolved_method, from_superclasses, from_superinterfaces, from_object, selected}
+
+-- ---- what examples unfold: each of these names stands for the definitions on its line
+
+-- descriptors are read
+unfoldable pub descriptors : Unit {0}
+unfolding read_field read_method read_type read_result read_element read_class split_class class_end split_dimensions dimensions
+descriptors = tt
+
+-- classes and their members
+unfoldable pub members : Unit {0}
+unfolding class_has first_version version_at version_count declared_method declared_virtual method_name method_desc method_has method_at
+members = tt
+
+-- methods are found
+unfoldable pub resolution : Unit {0}
+unfolding resolved_method from_superclasses from_superinterfaces from_object candidate candidates is_overridden concrete_ones
+resolution = tt
+
+-- methods are selected, and classes compared
+unfoldable pub subtypes : Unit {0}
+unfolding selected selected_by superclasses lookup_order type_of is_element_below is_array_below is_type_below is_subclass
+subtypes = tt
+
+-- ---- sites
 
 abbrev pub reference : ℕ → Value
 reference n = Ref (Some (record { 0 = n }))

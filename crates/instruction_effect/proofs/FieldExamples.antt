@@ -18,8 +18,8 @@ use Rattle.class_tree.specs.Trees.{Tree}
 use Rattle.java_heap.specs.declared.object.Object.{Object}
 use Rattle.java_heap.specs.declared.object.Content.TheVariants.{Fields, Elements}
 use Rattle.java_heap.specs.Objects.{fresh}
-use Rattle.link_versions.specs.declared.class.InitState.{InitState}
-use Rattle.link_versions.specs.declared.class.InitState.TheVariants as states
+use Rattle.ti_ids.specs.declared.state.InitState.{InitState}
+use Rattle.ti_ids.specs.declared.state.InitState.TheVariants as states
 use Rattle.link_versions.specs.Classes.{Class, OfFile, first_version}
 use Rattle.link_versions.specs.Members.{declared_field}
 use Rattle.link_versions.specs.Orders.{lookup_order, superclasses}
@@ -105,7 +105,8 @@ module _ (core : Core) (thread : Thread) (pin : Pin) where
   unfolding first_version superclasses lookup_order declared_field resolved_field
   get-long = refl
 
-  put-long : over ready pool_op.PutField 22 (Long (pos 3) ∷ reference 1 ∷ []) ≡ leaves (Changes (PutsField (record { 0 = 1 }) 1 (Long (pos 3))) ∷ []) []
+  put-long : over ready pool_op.PutField 22 (Long (pos 3) ∷ reference 1 ∷ [])
+      ≡ leaves (Changes (PutsField (record { 0 = 1 }) 1 (Long (pos 3))) ∷ []) []
   unfolding first_version superclasses lookup_order declared_field resolved_field
   put-long = refl
 
@@ -144,12 +145,14 @@ module _ (core : Core) (thread : Thread) (pin : Pin) where
   unfolding first_version superclasses lookup_order declared_field resolved_field
   static-init = refl
 
-  static-put : over (classes (states.InProgress (record { 0 = 1 })) states.Loaded) pool_op.PutStatic 20 (Int (pos 5) ∷ []) ≡ leaves (Changes (PutsStatic (field 2 1) (Int (pos 5))) ∷ []) []
+  static-put : over (classes (states.InProgress (record { 0 = 1 })) states.Loaded) pool_op.PutStatic 20 (Int (pos 5) ∷ [])
+      ≡ leaves (Changes (PutsStatic (field 2 1) (Int (pos 5))) ∷ []) []
   unfolding first_version superclasses lookup_order declared_field resolved_field
   static-put = refl
 
   -- five longs fill the operand stack
-  static-no_room : over ready pool_op.GetStatic 20 (Long (pos 1) ∷ Long (pos 2) ∷ Long (pos 3) ∷ Long (pos 4) ∷ Long (pos 5) ∷ []) ≡ Throws [] (codes "java/lang/InternalError")
+  static-no_room : over ready pool_op.GetStatic 20 (Long (pos 1) ∷ Long (pos 2) ∷ Long (pos 3) ∷ Long (pos 4) ∷ Long (pos 5) ∷ [])
+      ≡ Throws [] (codes "java/lang/InternalError")
   unfolding first_version superclasses lookup_order declared_field resolved_field
   static-no_room = refl
 
@@ -159,7 +162,8 @@ module _ (core : Core) (thread : Thread) (pin : Pin) where
   static-instance_one = refl
 
   -- by the class that declares it
-  accessed-y : accessed_field (at 64 objects ready pool []) (instr.Pool pool_op.GetField 22) ≡ Some (record { class = codes "A"; name = codes "y"; desc = codes "J" })
+  accessed-y : accessed_field (at 64 objects ready pool []) (instr.Pool pool_op.GetField 22)
+      ≡ Some (record { class = codes "A"; name = codes "y"; desc = codes "J" })
   unfolding first_version lookup_order declared_field resolved_field
   accessed-y = refl
 

@@ -15,7 +15,7 @@ use Rattle.java_heap.specs.declared.object.Object.{Object}
 use Rattle.java_heap.specs.declared.object.Content.TheVariants.{Fields, Elements, Literal, ClassObject}
 use Rattle.java_heap.specs.Objects.{fresh}
 use Rattle.link_versions.specs.declared.class.Element.TheVariants as element
-use Rattle.link_versions.specs.declared.class.InitState.TheVariants as states
+use Rattle.ti_ids.specs.declared.state.InitState.TheVariants as states
 use Rattle.link_versions.specs.Classes.{Class, OfArray, first_version}
 use Rattle.link_versions.specs.Orders.{lookup_order, superclasses}
 use Rattle.link_versions.specs.Subtypes.{type_of, is_element_below, is_array_below, is_type_below, is_subclass}
@@ -27,13 +27,19 @@ use Rattle.instruction_effect.specs.Objects.{object_outcome}
 use Rattle.instruction_effect.specs.Arrays.{array_outcome}
 use Rattle.instruction_effect.specs.Constants.{constant_outcome}
 use Rattle.instruction_effect.proofs.ExampleSites as sites
-use Rattle.instruction_effect.proofs.ExampleSites.{reference}
+use Rattle.instruction_effect.proofs.ExampleSites.{reference, descriptors, subtypes}
 use Rattle.instruction_effect.proofs.FieldExamples.{pool, file, of_file, classes, ready}
 
 -- the classes of the fields' examples, and class 4, of the arrays of A
 abbrev arrays_of_a : List Class
 arrays_of_a =
-    record { name = codes "[LA;"; parent = Some (record { 0 = 1 }); interfaces = []; kind = OfArray 1 (element.Class (record { 0 = 2 })); state = states.Initialized }
+    record {
+      name = codes "[LA;";
+      parent = Some (record { 0 = 1 });
+      interfaces = [];
+      kind = OfArray 1 (element.Class (record { 0 = 2 }));
+      state = states.Initialized;
+    }
     ∷ ready
 
 -- what a B holds that is new
@@ -71,7 +77,8 @@ module _ (core : Core) (thread : Thread) (pin : Pin) where
   unfolding first_version
   new-abstract = refl
 
-  new-made : over 13 ready (instr.Pool pool_op.New 3) [] ≡ leaves (Changes (Makes (fresh (record { 0 = 3 }) (Fields b_fields))) ∷ []) (reference 3 ∷ [])
+  new-made : over 13 ready (instr.Pool pool_op.New 3) []
+      ≡ leaves (Changes (Makes (fresh (record { 0 = 3 }) (Fields b_fields))) ∷ []) (reference 3 ∷ [])
   unfolding first_version superclasses
   new-made = refl
 
@@ -93,8 +100,9 @@ module _ (core : Core) (thread : Thread) (pin : Pin) where
   unfolding type_of is_element_below is_array_below is_type_below is_subclass lookup_order
   cast-fails = refl
 
-  cast-to_array : over 64 arrays_of_a (instr.Pool pool_op.CheckCast 26) (reference 2 ∷ []) ≡ Throws (Changes (AddsClass (codes "[LB;") states.Initialized) ∷ []) (codes "java/lang/ClassCastException")
-  unfolding type_of is_element_below is_array_below is_type_below is_subclass lookup_order class_end dimensions split_class split_dimensions read_class read_element read_type read_field
+  cast-to_array : over 64 arrays_of_a (instr.Pool pool_op.CheckCast 26) (reference 2 ∷ [])
+      ≡ Throws (Changes (AddsClass (codes "[LB;") states.Initialized) ∷ []) (codes "java/lang/ClassCastException")
+  unfolding descriptors subtypes
   cast-to_array = refl
 
   test-null : over 64 ready (instr.Pool pool_op.InstanceOf 4) (Ref None ∷ []) ≡ leaves [] (Int (pos 0) ∷ [])
@@ -115,7 +123,11 @@ module _ (core : Core) (thread : Thread) (pin : Pin) where
   throw-no_throwable : over 64 ready (instr.Simple simple.Throw) (reference 1 ∷ []) ≡ Throws [] (codes "java/lang/IncompatibleClassChangeError")
   throw-no_throwable = refl
 
-  throw-object : object_outcome (at 64 (fresh (record { 0 = 1 }) (Fields []) ∷ []) (of_file (codes "java/lang/Throwable") None states.Initialized (file 0x21 1 0 []) ∷ []) pool (reference 1 ∷ [])) (instr.Simple simple.Throw) ≡ ThrowsObject (record { 0 = 1 })
+  throw-object : object_outcome (
+      at 64 (fresh (record { 0 = 1 }) (Fields []) ∷ [])
+      (of_file (codes "java/lang/Throwable") None states.Initialized (file 0x21 1 0 []) ∷ []) pool (reference 1 ∷ [])
+      ) (instr.Simple simple.Throw)
+      ≡ ThrowsObject (record { 0 = 1 })
   unfolding type_of is_element_below is_type_below is_subclass lookup_order
   throw-object = refl
 
@@ -137,7 +149,11 @@ module _ (core : Core) (thread : Thread) (pin : Pin) where
   unfolding type_of
   store-out_of_range = refl
 
-  make-of_b : array_outcome (at 64 objects arrays_of_a pool (Int (pos 2) ∷ [])) (instr.Pool pool_op.NewReferenceArray 3) ≡ leaves (Changes (AddsClass (codes "[LB;") states.Initialized) ∷ Changes (Makes (fresh (record { 0 = 5 }) (Elements (Ref None ∷ Ref None ∷ [])))) ∷ []) (reference 3 ∷ [])
+  make-of_b : array_outcome (at 64 objects arrays_of_a pool (Int (pos 2) ∷ [])) (instr.Pool pool_op.NewReferenceArray 3)
+      ≡ leaves
+      (Changes (AddsClass (codes "[LB;") states.Initialized)
+      ∷ Changes (Makes (fresh (record { 0 = 5 }) (Elements (Ref None ∷ Ref None ∷ [])))) ∷ [])
+      (reference 3 ∷ [])
   unfolding class_end dimensions split_class split_dimensions read_class read_element read_type read_field
   make-of_b = refl
 
@@ -150,11 +166,17 @@ module _ (core : Core) (thread : Thread) (pin : Pin) where
   abbrev literal : Object
   literal = fresh (record { 0 = 4 }) (Literal (codes "hi"))
 
-  load-new : constant_outcome (at 64 objects ready pool []) (instr.LoadConst 28) ≡ leaves (Changes (Makes literal) ∷ raises (VMObjectAlloc (record { 0 = 1 }) (record { 0 = 3 }) (codes "java/lang/String")) ∷ []) (reference 3 ∷ [])
+  load-new : constant_outcome (at 64 objects ready pool []) (instr.LoadConst 28)
+      ≡ leaves (Changes (Makes literal) ∷ raises (VMObjectAlloc (record { 0 = 1 }) (record { 0 = 3 }) (codes "java/lang/String")) ∷ [])
+      (reference 3 ∷ [])
   load-new = refl
 
   load-same : constant_outcome (at 64 (literal ∷ []) ready pool []) (instr.LoadConst 28) ≡ leaves [] (reference 1 ∷ [])
   load-same = refl
 
-  load-class : constant_outcome (at 64 objects ready pool []) (instr.Pool pool_op.LoadConstWide 3) ≡ leaves (Changes (Makes (fresh (record { 0 = 6 }) (ClassObject (record { 0 = 3 })))) ∷ raises (VMObjectAlloc (record { 0 = 1 }) (record { 0 = 3 }) (codes "java/lang/Class")) ∷ []) (reference 3 ∷ [])
+  load-class : constant_outcome (at 64 objects ready pool []) (instr.Pool pool_op.LoadConstWide 3)
+      ≡ leaves (
+      Changes (Makes (fresh (record { 0 = 6 }) (ClassObject (record { 0 = 3 }))))
+      ∷ raises (VMObjectAlloc (record { 0 = 1 }) (record { 0 = 3 }) (codes "java/lang/Class")) ∷ []
+      ) (reference 3 ∷ [])
   load-class = refl

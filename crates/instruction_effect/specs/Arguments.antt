@@ -31,7 +31,9 @@ use Rattle.instruction_effect.specs.Outcomes.{Site, Outcome, or_misfit}
 
 -- the class, the name and the descriptor of a method
 abbrev pub name_of_method : List Class → MethodNo → Option MethodName
-name_of_method classes m = class_at classes m.class >>= λ c. method_name classes m >>= λ name. method_desc classes m >>= λ desc. Some (record { class = c.name; name = name; desc = desc })
+name_of_method classes m =
+    class_at classes m.class >>= λ c. method_name classes m >>= λ name. method_desc classes m >>= λ desc.
+    Some (record { class = c.name; name = name; desc = desc })
 
 -- table 4.3-A and section 2.11.1: what holds a value of a type
 abbrev pub element_kind : ElementType → Kind
@@ -102,7 +104,8 @@ filled count places = places ++ replicate (count - length places) (value.Int (po
 -- the body of a method in the newest version of its class
 abbrev pub newest_body : List Class → MethodNo → Option Code
 newest_body classes m =
-    option_and_then (λ member. code_of member.attrs) (option_and_then (λ t. method_in t (method_name classes m) (method_desc classes m)) (version_at classes (newest_version classes m.class)))
+    version_at classes (newest_version classes m.class) >>= λ t. method_in t (method_name classes m) (method_desc classes m) >>= λ member.
+    code_of member.attrs
 
 -- what a frame is pinned to before it is pushed, which gives it its birth
 abbrev pub unborn : Pin

@@ -1,6 +1,5 @@
 -- `arraylength`, the loads and stores of array elements, and the family of all array instructions (JVM specification 6.5).
 use Rattle.std.specs.Prelude.{ℕ, zero, suc, ℤ, pos, negsuc, Bool, true, false, [], ◌∷◌, Option, Some, None, option_map, codes, if◌then◌else◌}
-use Rattle.std.specs.Option.{option_map_or}
 use Rattle.ti_ids.specs.Maybe.{◌>>=◌}
 use Rattle.ti_ids.specs.declared.number.ObjNo.{ObjNo}
 use Rattle.ti_ids.specs.declared.value.Value.{Value}
@@ -60,7 +59,8 @@ components_in site e object = heaps.class_at site.core.heap object >>= λ n. com
 
 -- It must be such an array, and not null.
 abbrev pub when_array : Site → Element → Option ObjNo → (ObjNo → Typed → Outcome) → Outcome
-when_array site e reference so = unless_null [] reference (λ object. elim (components_in site e object) [ None ↦ incompatible [] | Some component ↦ so object component ])
+when_array site e reference so =
+    unless_null [] reference (λ object. elim (components_in site e object) [ None ↦ incompatible [] | Some component ↦ so object component ])
 
 -- ---- elements
 
@@ -86,7 +86,10 @@ kept component v = v
 
 -- An object may be an element where its class, be it that of an array, passes for the components' type. So may null.
 abbrev pub is_below : Site → ObjNo → Typed → Bool
-is_below site object component = option_map_or (λ n. let own = type_of site.classes n in is_type_below site.classes own.0 own.1 component.0 component.1) (heaps.class_at site.core.heap object) false
+is_below site object component = elim (heaps.class_at site.core.heap object) [
+  | None ↦ false
+  | Some n ↦ let own = type_of site.classes n in is_type_below site.classes own.0 own.1 component.0 component.1
+]
 
 abbrev pub may_hold : Site → Typed → Value → Bool
 may_hold site component (value.Ref (Some object)) = is_below site object component

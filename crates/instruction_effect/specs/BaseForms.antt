@@ -43,16 +43,16 @@ arguments_taken c = c.before ++ takes_arguments c.site c.arguments
 abbrev pub fails : BaseCall → Name → Outcome
 fails c error = Throws (arguments_taken c) error
 
-abbrev pub is_full : BaseCall → Outcome
-is_full c = Fills (arguments_taken c)
+abbrev pub fills : BaseCall → Outcome
+fills c = Fills (arguments_taken c)
 
 -- ---- objects and monitors
 
 -- It makes an object, announced by VMObjectAlloc, and gives it.
 abbrev pub makes : BaseCall → ClassNo → Content → Name → Outcome
 makes c class content name =
-    if heap_has_room c.site.core.heap content then gives_made c (makes_announced c.site.t c.site.core.heap class content name) (next_number c.site.core.heap)
-    else is_full c
+    let heap = c.site.core.heap in
+    if heap_has_room heap content then gives_made c (makes_announced c.site.t heap class content name) (next_number heap) else fills c
 
 -- Only the owner of an object's monitor may do it (the language, 17.2).
 abbrev pub when_owner : BaseCall → ObjNo → Outcome → Outcome

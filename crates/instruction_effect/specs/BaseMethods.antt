@@ -109,26 +109,27 @@ is_row_of m r = bytes_eq m.class r.name.class && bytes_eq m.name r.name.name && 
 -- ---- what the arguments must be
 
 -- null, and each object of the class; an interface takes every object
-abbrev pub takes_reference : Site → ClassNo → Option ObjNo → Bool
-takes_reference site n None = true
-takes_reference site n (Some o) = if is_interface site.classes n then true else is_of site o n
+abbrev pub accepts_object : Site → ClassNo → Option ObjNo → Bool
+accepts_object site n None = true
+accepts_object site n (Some o) = if is_interface site.classes n then true else is_of site o n
 
 -- an argument for a parameter of a base method, where each that is a reference is of a class
-abbrev pub takes_element : Site → ElementType → Value → Bool
-takes_element site (element_type.Class name) (value.Ref r) = option_map_or (λ n. takes_reference site n r) (number_of site.classes name) false
-takes_element site e v = true
+abbrev pub accepts_value : Site → ElementType → Value → Bool
+accepts_value site (element_type.Class name) (value.Ref r) =
+    option_map_or (λ n. accepts_object site n r) (number_of site.classes name) false
+accepts_value site e v = true
 
-abbrev pub take : Site → List FieldType → List Value → Bool
-take site (t ∷ types) (v ∷ values) = takes_element site t.element v && take site types values
-take site types values = true
+abbrev pub accepts_values : Site → List FieldType → List Value → Bool
+accepts_values site (t ∷ types) (v ∷ values) = accepts_value site t.element v && accepts_values site types values
+accepts_values site types values = true
 
 -- The receiver of a method that isn't static counts as a first parameter, of the method's class.
 abbrev pub argument_types : Bool → MethodName → List FieldType
 argument_types true m = parameters_of m.desc
 argument_types false m = record { dimensions = 0; element = element_type.Class m.class } ∷ parameters_of m.desc
 
-abbrev pub takes_all : Site → MethodNo → MethodName → List Value → Bool
-takes_all site m name values = take site (argument_types (method_has site.classes flags.Static m) name) values
+abbrev pub accepts_all : Site → MethodNo → MethodName → List Value → Bool
+accepts_all site m name values = accepts_values site (argument_types (method_has site.classes flags.Static m) name) values
 
 -- ---- the whole
 
@@ -139,4 +140,4 @@ base_row m = find (is_row_of m) base_rows
 -- nothing is performed.
 abbrev pub base_outcome : Site → List Act → MethodNo → List Value → Outcome
 base_outcome site before m values = or_misfit (name_of_method site.classes m) (λ name. or_misfit (base_row name) (λ r.
-    if takes_all site m name values then r.does (record { site = site; before = before; arguments = values }) values else incompatible before))
+    if accepts_all site m name values then r.does (record { site = site; before = before; arguments = values }) values else incompatible before))

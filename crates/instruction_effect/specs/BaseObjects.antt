@@ -7,7 +7,7 @@ use Rattle.ti_ids.specs.declared.value.Value.TheVariants as value
 use Rattle.java_heap.specs.declared.object.Content.TheVariants.{ClassObject}
 use Rattle.java_heap.specs.declared.object.TheConstants.{CLASS}
 use Rattle.java_heap.specs.Heaps.{class_at, class_object_of, side_at}
-use Rattle.machine_state.specs.Core.{Waiting}
+use Rattle.ti_ids.specs.declared.state.Activity.TheVariants.{Waiting}
 use Rattle.machine_state.specs.Trace.{MonitorWait}
 use Rattle.machine_state.specs.Acts.{Changes, PutsSide, GoesToWait, Notifies, NotifiesAll, SetsActivity, raises}
 use Rattle.instruction_effect.specs.Outcomes.{Outcome, Goes, misfit, or_misfit}
@@ -54,7 +54,8 @@ hash_code c _ = misfit
 
 -- `wait`: the thread gives up all its entries and goes into the wait set. The arguments are taken when the wait is over.
 abbrev pub waits_for : BaseCall → ObjNo → Outcome
-waits_for c o = Goes (c.before ++ Changes (GoesToWait o c.site.t) ∷ Changes (SetsActivity c.site.t (Waiting o)) ∷ raises (MonitorWait c.site.t o) ∷ [])
+waits_for c o =
+    Goes (c.before ++ Changes (GoesToWait o c.site.t) ∷ Changes (SetsActivity c.site.t (Waiting o)) ∷ raises (MonitorWait c.site.t o) ∷ [])
 
 abbrev pub waits : BaseCall → List Value → Outcome
 waits c (value.Ref (Some o) ∷ []) = when_owner c o (waits_for c o)

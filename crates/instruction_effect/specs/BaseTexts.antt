@@ -14,7 +14,7 @@ use Rattle.java_heap.specs.declared.object.TheConstants.{STRING}
 use Rattle.java_heap.specs.Heaps.{HeapValue, class_at, text_at, words_taken}
 use Rattle.machine_state.specs.Acts.{Changes, PutsBehind, Prints}
 use Rattle.instruction_effect.specs.Outcomes.{Outcome, misfit, or_misfit}
-use Rattle.instruction_effect.specs.BaseForms.{BaseCall, done_by, gives_value, gives_made, makes, fails, is_full}
+use Rattle.instruction_effect.specs.BaseForms.{BaseCall, done_by, gives_value, gives_made, makes, fails, fills}
 use Rattle.instruction_effect.specs.BaseObjects.{bit}
 
 -- ---- what values are as texts
@@ -74,7 +74,8 @@ string_at heap None = None
 string_at heap (Some o) = if option_map_or (λ n. n.0 == STRING.0) (class_at heap o) false then text_at heap o else None
 
 abbrev pub equal_strings : BaseCall → List Value → Outcome
-equal_strings c (value.Ref (Some o) ∷ value.Ref other ∷ []) = or_misfit (text_at c.site.core.heap o) (λ units. gives_value c (bit (option_map_or (bytes_eq units) (string_at c.site.core.heap other) false)))
+equal_strings c (value.Ref (Some o) ∷ value.Ref other ∷ []) =
+    or_misfit (text_at c.site.core.heap o) (λ units. gives_value c (bit (option_map_or (bytes_eq units) (string_at c.site.core.heap other) false)))
 equal_strings c _ = misfit
 
 -- ---- StringBuilder
@@ -83,7 +84,7 @@ equal_strings c _ = misfit
 abbrev pub grows_by : BaseCall → ObjNo → List ℕ → Outcome
 grows_by c o units =
     if nat_le (words_taken c.site.core.heap + length units) c.site.core.heap.limit then gives_made c (Changes (PutsBehind o units) ∷ []) o
-    else is_full c
+    else fills c
 
 abbrev pub appends : Writing → BaseCall → List Value → Outcome
 appends text c (value.Ref (Some o) ∷ v ∷ []) = or_misfit (text c.site.core.heap v) (grows_by c o)

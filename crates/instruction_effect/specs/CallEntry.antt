@@ -19,7 +19,7 @@ use Rattle.machine_state.specs.Acts.{Act, Changes, SetsState, core_after}
 use Rattle.instruction_effect.specs.Outcomes.{Site, Outcome, Goes, when_loaded, when_ready, when_room, makes_announced}
 use Rattle.instruction_effect.specs.Arguments.{unborn}
 use Rattle.instruction_effect.specs.Invoking.{abstract_method, no_method, unselected, calls}
-use Rattle.instruction_effect.specs.BaseThreads.{Run, Nothing, Runs, Lacks, run_at, calls_run}
+use Rattle.instruction_effect.specs.BaseThreads.{RunMethod, NoRun, RunOf, LacksRun, run_at, calls_run}
 
 -- ---- where a thread without frames stands
 
@@ -35,9 +35,9 @@ entry_site core classes t thread = record {
   next = 0;
 }
 
--- it has entered its method
-abbrev pub is_entered : ThreadNo → List Act
-is_entered t = Changes (SetsState t Running) ∷ []
+-- it goes on as one that has entered its method
+abbrev pub marks_entered : ThreadNo → List Act
+marks_entered t = Changes (SetsState t Running) ∷ []
 
 -- ---- thread 1
 
@@ -46,14 +46,15 @@ main_desc = codes "([Ljava/lang/String;)V"
 
 -- the static `main` that a class itself declares
 abbrev pub main_of : List Class → ClassNo → Option MethodNo
-main_of classes n = option_and_then (λ m. if method_has classes flags.Static m then Some m else None) (declared_method classes (codes "main") main_desc n)
+main_of classes n =
+    option_and_then (λ m. if method_has classes flags.Static m then Some m else None) (declared_method classes (codes "main") main_desc n)
 
--- `main` is called with an array of no Strings, which was made before.
+-- `main` is called with an array of no Strings, which was made before. No frame was pushed for that, so no birth is looked at.
 abbrev pub calls_main : Site → MethodNo → List Act → ObjNo → Outcome
 calls_main site m made array =
-    calls (record site { core = core_after site.core made }) (record {
+    calls (record site { core = core_after 0 site.core made }) (record {
       before = made;
-      taking = is_entered site.t;
+      taking = marks_entered site.t;
       method = m;
       arguments = value.Ref (Some array) ∷ [];
     })
@@ -77,10 +78,10 @@ enters_first site main = when_loaded site main (λ before n. when_ready site n (
 
 -- ---- a later thread
 
-abbrev pub enters_run : Site → Run → Outcome
-enters_run site Nothing = Goes (is_entered site.t)
-enters_run site (Lacks fault) = unselected [] fault
-enters_run site (Runs object m) = calls_run site [] (is_entered site.t) object m
+abbrev pub enters_run : Site → RunMethod → Outcome
+enters_run site NoRun = Goes (marks_entered site.t)
+enters_run site (LacksRun fault) = unselected [] fault
+enters_run site (RunOf object m) = calls_run site [] (marks_entered site.t) object m
 
 -- `run` is selected for its Thread object. That of Thread itself runs the target.
 abbrev pub enters_later : Site → Outcome

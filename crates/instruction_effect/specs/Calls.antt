@@ -103,7 +103,8 @@ is_above classes n of = list_any (same_class n) (drop 1 (superclasses classes of
 -- The selection starts at the direct superclass of the current class where that has the flag ACC_SUPER, the class that is named is a
 -- superclass of it, and the method is no `<init>`; else at the class that is named.
 abbrev pub starts_above : Resolved → Bool
-starts_above x = not (is_init x.reference) && is_above x.site.classes x.class x.site.frame.class && class_has x.site.classes flags.Super x.site.frame.class
+starts_above x =
+    not (is_init x.reference) && is_above x.site.classes x.class x.site.frame.class && class_has x.site.classes flags.Super x.site.frame.class
 
 abbrev pub start_of : Resolved → ClassNo
 start_of x = if starts_above x then unwrap_or (option_and_then (λ c. c.parent) (class_at x.site.classes x.site.frame.class)) x.class else x.class

@@ -58,7 +58,8 @@ field_zero classes field = zero_of (field_kind classes field)
 abbrev pub instance_ones : ClassNo → ℕ → List Member → List FieldNo
 instance_ones n place [] = []
 instance_ones n place (m ∷ ms) =
-    if has_flag m.flags.bits flags.Static then instance_ones n (place + 1) ms else record { class = n; place = place } ∷ instance_ones n (place + 1) ms
+    let rest = instance_ones n (place + 1) ms in
+    if has_flag m.flags.bits flags.Static then rest else record { class = n; place = place } ∷ rest
 
 abbrev pub own_fields : List Class → ClassNo → List FieldNo
 own_fields classes n = option_map_or (λ t. instance_ones n 0 t.fields) (first_version classes n) []
@@ -90,7 +91,8 @@ value_in site object field = place_in site object field >>= λ place. heaps.fiel
 
 -- what an entry of the constant pool names (section 4.4.2)
 abbrev pub field_of : List Const → Const → Option FieldName
-field_of pool (const.Field class pair) = class_at pool class >>= λ c. name_type_at pool pair >>= λ p. Some (record { class = c; name = p.0; desc = p.1 })
+field_of pool (const.Field class pair) =
+    class_at pool class >>= λ c. name_type_at pool pair >>= λ p. Some (record { class = c; name = p.0; desc = p.1 })
 field_of pool _ = None
 
 abbrev pub field_named : List Const → ℕ → Option FieldName
@@ -142,8 +144,10 @@ write_instance site acts field =
 
 -- The class that declares a static field must be initialized before anything else of it is looked at.
 abbrev pub field_outcome : Site → Instr → Outcome
-field_outcome site (instr.Pool pool_op.GetStatic index) = when_resolved site index (λ there acts field. when_ready there field.class (read_static there acts field))
-field_outcome site (instr.Pool pool_op.PutStatic index) = when_resolved site index (λ there acts field. when_ready there field.class (write_static there acts field))
+field_outcome site (instr.Pool pool_op.GetStatic index) =
+    when_resolved site index (λ there acts field. when_ready there field.class (read_static there acts field))
+field_outcome site (instr.Pool pool_op.PutStatic index) =
+    when_resolved site index (λ there acts field. when_ready there field.class (write_static there acts field))
 field_outcome site (instr.Pool pool_op.GetField index) = when_resolved site index read_instance
 field_outcome site (instr.Pool pool_op.PutField index) = when_resolved site index write_instance
 field_outcome site i = misfit

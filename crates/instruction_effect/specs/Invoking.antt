@@ -57,7 +57,8 @@ entered_receiver site call frame _ = misfit
 
 abbrev pub entered_class : Site → Call → MethodFrame → Outcome
 entered_class site call frame =
-    when_class_object site call.before call.method.class (λ made object. entering site object (λ acts. pushed site (record call { before = made }) (with_monitor object frame) acts))
+    when_class_object site call.before call.method.class (λ made object.
+    entering site object (pushed site (record call { before = made }) (with_monitor object frame)))
 
 abbrev pub synchronized : Site → Call → MethodFrame → Outcome
 synchronized site call frame =

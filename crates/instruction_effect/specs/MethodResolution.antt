@@ -8,7 +8,7 @@ use Rattle.class_tree.specs.declared.access.Flag.TheVariants as flags
 use Rattle.class_tree.specs.declared.pool.Const.{Const}
 use Rattle.class_tree.specs.declared.pool.Const.TheVariants as const
 use Rattle.class_tree.specs.Tree as tree
-use Rattle.class_tree.specs.Tree.{entry_at, name_type_at, first_of}
+use Rattle.class_tree.specs.Tree.{entry_at, name_type_at}
 use Rattle.link_versions.specs.Classes.{Class, is_interface}
 use Rattle.link_versions.specs.Members.{method_has}
 use Rattle.link_versions.specs.Resolution.{resolved_method}
@@ -28,7 +28,8 @@ pub record Reference : Type 0 where
 
 abbrev pub reference_to : List Const → Bool → ℕ → ℕ → Option Reference
 reference_to pool in_interface class pair =
-    option_map (λ r. record { in_interface = in_interface; class = r.0; name = r.1.0; desc = r.1.1 }) (option_zip (tree.class_at pool class) (name_type_at pool pair))
+    option_map (λ r. record { in_interface = in_interface; class = r.0; name = r.1.0; desc = r.1.1 })
+    (option_zip (tree.class_at pool class) (name_type_at pool pair))
 
 abbrev pub reference_of : List Const → Const → Option Reference
 reference_of pool (const.Method class pair) = reference_to pool false class pair
@@ -64,7 +65,9 @@ pub record Resolved : Type 0 where
 
 -- The class that is named must be loaded, and the method resolved.
 abbrev pub when_resolved : Site → Reference → (Resolved → Outcome) → Outcome
-when_resolved site r so = when_there site r.class (λ there acts n. when_resolved_in there acts n r (λ m. so (record { site = there; before = acts; reference = r; class = n; method = m })))
+when_resolved site r so =
+    when_there site r.class (λ there acts n. when_resolved_in there acts n r (λ m.
+    so (record { site = there; before = acts; reference = r; class = n; method = m })))
 
 abbrev pub resolving : Site → ℕ → (Resolved → Outcome) → Outcome
 resolving site index so = or_misfit (reference_named site.pool index) (λ r. when_resolved site r so)

@@ -3,7 +3,9 @@
 use Rattle.std.specs.Prelude.{Bool, true, false, ◌==◌, List, [], ◌∷◌, Option, Some, None, if◌then◌else◌}
 use Rattle.ti_ids.specs.declared.number.ThreadNo.{ThreadNo}
 use Rattle.ti_ids.specs.declared.number.ObjNo.{ObjNo}
-use Rattle.machine_state.specs.Core.{Activity, Free, Wanting, monitor_at}
+use Rattle.ti_ids.specs.declared.state.Activity.{Activity}
+use Rattle.ti_ids.specs.declared.state.Activity.TheVariants.{Free, Wanting}
+use Rattle.machine_state.specs.Core.{monitor_at}
 use Rattle.machine_state.specs.Trace.{MonitorContendedEnter, MonitorContendedEntered}
 use Rattle.machine_state.specs.Acts.{Act, Changes, Enters, SetsActivity, raises}
 use Rattle.instruction_effect.specs.Outcomes.{Site, Outcome, Goes}
@@ -18,17 +20,23 @@ abbrev pub wants : Activity → ObjNo → Bool
 wants (Wanting wanted) object = wanted.0 == object.0
 wants _ object = false
 
--- The acts that enter it. A thread that wanted it wants it no more.
+-- Whatever a thread performs ends its wish for a monitor, also for another one than it enters, if it enters one.
+abbrev pub wish_ends : ThreadNo → Activity → List Act
+wish_ends t (Wanting wanted) = Changes (SetsActivity t Free) ∷ []
+wish_ends t _ = []
+
+-- the acts that enter it, of a thread that wanted it or that did not
 abbrev pub entering_acts : Site → ObjNo → List Act
 entering_acts site object =
     if wants site.thread.activity object
-    then Changes (Enters object site.t) ∷ Changes (SetsActivity site.t Free) ∷ raises (MonitorContendedEntered site.t object) ∷ []
+    then Changes (Enters object site.t) ∷ raises (MonitorContendedEntered site.t object) ∷ []
     else Changes (Enters object site.t) ∷ []
 
--- The acts of a thread that finds it owned by another one: only the first time does it do anything.
+-- The acts of a thread that finds it owned by another one: it wants it, and only the first time is that an event.
 abbrev pub wanting_acts : Site → ObjNo → List Act
 wanting_acts site object =
-    if wants site.thread.activity object then [] else raises (MonitorContendedEnter site.t object) ∷ Changes (SetsActivity site.t (Wanting object)) ∷ []
+    let wanting = Changes (SetsActivity site.t (Wanting object)) ∷ [] in
+    if wants site.thread.activity object then wanting else raises (MonitorContendedEnter site.t object) ∷ wanting
 
 -- The monitor must be entered, and what comes then goes by the acts that enter it. While another thread owns it the frame stays at the
 -- instruction.

@@ -16,7 +16,7 @@ use Rattle.java_heap.specs.declared.object.Content.TheVariants.{Elements}
 use Rattle.java_heap.specs.Objects.{fresh}
 use Rattle.java_heap.specs.Heaps.{HeapValue, next_number}
 use Rattle.java_heap.specs.Changes.{with_elem}
-use Rattle.link_versions.specs.declared.class.InitState.TheVariants as states
+use Rattle.ti_ids.specs.declared.state.InitState.TheVariants as states
 use Rattle.link_versions.specs.Classes.{Class, number_of}
 use Rattle.link_versions.specs.Subtypes.{type_of}
 use Rattle.bytecode_local.specs.Kinds.{int_at}
@@ -54,7 +54,8 @@ negative_length acts = Throws acts (codes "java/lang/NegativeArraySizeException"
 
 abbrev pub new_of_length : Site → List Act → ClassNo → Name → ℤ → Outcome
 new_of_length site acts class name (pos n) =
-    when_room site.core.heap acts (Changes (Makes (fresh class (first_elements name n))) ∷ []) (first_elements name n) (λ all. gives_object site all 1)
+    let elements = first_elements name n in
+    when_room site.core.heap acts (Changes (Makes (fresh class elements)) ∷ []) elements (λ all. gives_object site all 1)
 new_of_length site acts class name (negsuc n) = negative_length acts
 
 abbrev pub new_array : Site → Name → Outcome
@@ -66,7 +67,8 @@ newarray_outcome site of = new_array site (primitive_array of)
 abbrev pub anewarray_outcome : Site → ℕ → Outcome
 anewarray_outcome site index = or_misfit (class_at site.pool index) (λ name. new_array site (array_over name))
 
--- ---- arrays in arrays
+-- ---- arrays in arrays. An array of lengths n, m, .. has n elements, each of which is an array of lengths m, ..; an array is made before
+-- what its elements hold, and its elements are given theirs in their order, until one is refused.
 
 -- How far they are made: the classes and the heap as they are then, the acts so far, and whether one was refused for want of room. Then no
 -- further one is made.

@@ -37,7 +37,8 @@ new_content classes n = if same_class n STRING || same_class n STRING_BUILDER th
 
 -- a class of which there are instances: neither abstract nor an interface, nor of an array
 abbrev pub has_instances : List Class → ClassNo → Bool
-has_instances classes n = option_map_or (λ t. not (has_flag t.flags.bits flags.Abstract) && not (has_flag t.flags.bits flags.Interface)) (first_version classes n) false
+has_instances classes n =
+    option_map_or (λ t. not (has_flag t.flags.bits flags.Abstract) && not (has_flag t.flags.bits flags.Interface)) (first_version classes n) false
 
 -- an object of this content is made without an event, where there is room, and stands in the place of so many operands
 abbrev pub makes : Site → List Act → ℕ → ClassNo → Content → Outcome

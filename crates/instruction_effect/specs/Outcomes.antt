@@ -11,10 +11,10 @@ use Rattle.class_tree.specs.declared.pool.Const.{Const}
 use Rattle.java_heap.specs.declared.object.Content.{Content}
 use Rattle.java_heap.specs.Objects.{words_of, fresh}
 use Rattle.java_heap.specs.Heaps.{HeapValue, words_taken, next_number}
-use Rattle.link_versions.specs.declared.class.InitState.{InitState}
-use Rattle.link_versions.specs.declared.class.InitState.TheVariants as states
+use Rattle.ti_ids.specs.declared.state.InitState.{InitState}
+use Rattle.ti_ids.specs.declared.state.InitState.TheVariants as states
 use Rattle.link_versions.specs.Classes.{Class, class_at, number_of}
-use Rattle.bytecode_local.specs.Changes.{Change, takes, changed}
+use Rattle.bytecode_local.specs.Changes.{Change, can_take, changed}
 use Rattle.machine_state.specs.Core.{Core, Thread, MethodFrame}
 use Rattle.machine_state.specs.Linked.{array_type}
 use Rattle.machine_state.specs.Trace.{VMObjectAlloc}
@@ -59,7 +59,7 @@ or_misfit (Some x) so = so x
 -- After these acts the frame is changed so, and goes on behind the instruction; a misfit where its stack has no room.
 abbrev pub goes : Site → List Act → Change → Outcome
 goes site before change =
-    if takes site.frame change then Goes (before ++ Changes (SetsTop site.t (changed site.frame change site.next)) ∷ []) else misfit
+    if can_take site.frame change then Goes (before ++ Changes (SetsTop site.t (changed site.frame change site.next)) ∷ []) else misfit
 
 -- ---- needs
 

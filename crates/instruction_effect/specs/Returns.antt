@@ -10,7 +10,7 @@ use Rattle.class_code.specs.declared.instr.Simple.TheVariants as simple
 use Rattle.class_code.specs.declared.instr.Kind.{Kind}
 use Rattle.class_code.specs.declared.instr.Kind.TheVariants as kind
 use Rattle.thread_frames.specs.declared.frame.StackEntry.TheVariants.{Java, Init}
-use Rattle.bytecode_local.specs.Changes.{exchange, takes, changed}
+use Rattle.bytecode_local.specs.Changes.{exchange, can_take, changed}
 use Rattle.bytecode_local.specs.Kinds.{kind_at}
 use Rattle.machine_state.specs.Core.{MethodFrame, StackFrame}
 use Rattle.machine_state.specs.Trace.{MethodName, MethodExit, FramePop, Returned}
@@ -60,7 +60,7 @@ leaving site so = given_up site site.frame.pin.monitor so
 abbrev pub caller_goes_on : ThreadNo → MethodFrame → List Value → Option ℕ → Option (List Act)
 caller_goes_on t caller result None = None
 caller_goes_on t caller result (Some pc) =
-    if takes caller (exchange 0 result) then Some (Changes (SetsTop t (changed caller (exchange 0 result) pc)) ∷ []) else None
+    if can_take caller (exchange 0 result) then Some (Changes (SetsTop t (changed caller (exchange 0 result) pc)) ∷ []) else None
 
 -- An initialization, or the end of the thread's frames, is handed nothing.
 abbrev pub handed_to : (MethodFrame → Option ℕ) → ThreadNo → List Value → List StackFrame → Option (List Act)

@@ -7,7 +7,7 @@ use Rattle.jv_names.specs.declared.descriptor.FieldType.{FieldType}
 use Rattle.jv_names.specs.Names.{Name}
 use Rattle.link_versions.specs.declared.class.Entry.{Entry}
 use Rattle.link_versions.specs.declared.class.EntryKind.TheVariants as entry_kinds
-use Rattle.link_versions.specs.declared.class.InitState.TheVariants as states
+use Rattle.ti_ids.specs.declared.state.InitState.TheVariants as states
 use Rattle.link_versions.specs.Classes.{Class, number_of}
 use Rattle.link_versions.specs.Subtypes.{object_name, array_interface_names}
 use Rattle.link_versions.specs.Changes.{IsThere, element_by, IsElementThere, IsArrayName, array_class, with_array, IsLawful}

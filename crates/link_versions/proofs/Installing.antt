@@ -11,7 +11,7 @@ use Rattle.class_tree.specs.WellFormed.{is_well_formed}
 use Rattle.link_versions.specs.declared.class.Entry.{Entry}
 use Rattle.link_versions.specs.declared.class.EntryKind.{EntryKind}
 use Rattle.link_versions.specs.declared.class.EntryKind.TheVariants as entry_kinds
-use Rattle.link_versions.specs.declared.class.InitState.{InitState}
+use Rattle.ti_ids.specs.declared.state.InitState.{InitState}
 use Rattle.link_versions.specs.declared.class.Version.{Version}
 use Rattle.link_versions.specs.Classes.{Class, numbered, versions_of, first_version, version_count}
 use Rattle.link_versions.specs.Changes.{IsThere, Keeps, with_class, with_version, with_state, IsOfKind}

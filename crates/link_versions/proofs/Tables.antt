@@ -15,7 +15,7 @@ use Rattle.class_tree.proofs.Facts.{well_formed_facts}
 use Rattle.link_versions.specs.declared.class.Entry.{Entry}
 use Rattle.link_versions.specs.declared.class.EntryKind.TheVariants as entry_kinds
 use Rattle.link_versions.specs.declared.class.Version.{Version}
-use Rattle.link_versions.specs.declared.class.InitState.TheVariants as states
+use Rattle.ti_ids.specs.declared.state.InitState.TheVariants as states
 use Rattle.link_versions.specs.Classes.{Class, OfFile, class_at, number_of}
 use Rattle.link_versions.specs.Orders.{from_parent, ordered, lookup_order, superclasses}
 use Rattle.link_versions.specs.Changes.{IsThere, parent_by, interfaces_by, CanDefine, file_class, IsOfKind, IsLawful, AreLawful}

@@ -16,8 +16,8 @@ use Rattle.class_tree.specs.Tree.{text_at, class_at as name_at}
 use Rattle.class_tree.specs.WellFormed.{is_well_formed}
 use Rattle.link_versions.specs.declared.class.Element.{Element}
 use Rattle.link_versions.specs.declared.class.Element.TheVariants as element
-use Rattle.link_versions.specs.declared.class.InitState.{InitState}
-use Rattle.link_versions.specs.declared.class.InitState.TheVariants as states
+use Rattle.ti_ids.specs.declared.state.InitState.{InitState}
+use Rattle.ti_ids.specs.declared.state.InitState.TheVariants as states
 use Rattle.link_versions.specs.Classes.{Class, Kind, OfFile, OfArray, with_numbered, number_of, first_version, version_at, newest_version}
 use Rattle.link_versions.specs.Subtypes.{object_name, array_interface_names}
 

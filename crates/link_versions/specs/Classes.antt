@@ -10,7 +10,7 @@ use Rattle.class_tree.specs.declared.access.Flag.TheVariants as flags
 use Rattle.class_tree.specs.Flags.{has_flag}
 use Rattle.class_tree.specs.Trees.{Tree}
 use Rattle.link_versions.specs.declared.class.Element.{Element}
-use Rattle.link_versions.specs.declared.class.InitState.{InitState}
+use Rattle.ti_ids.specs.declared.state.InitState.{InitState}
 
 -- what a class is: one of a file, with its versions, the first first; or an array class, of so many dimensions over an element
 -- (section 2.4)

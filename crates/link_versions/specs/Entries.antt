@@ -9,7 +9,7 @@ use Rattle.class_tree.specs.WellFormed.{is_well_formed}
 use Rattle.link_versions.specs.declared.class.Entry.{Entry}
 use Rattle.link_versions.specs.declared.class.EntryKind.{EntryKind}
 use Rattle.link_versions.specs.declared.class.EntryKind.TheVariants as entry_kinds
-use Rattle.link_versions.specs.declared.class.InitState.{InitState}
+use Rattle.ti_ids.specs.declared.state.InitState.{InitState}
 use Rattle.link_versions.specs.declared.class.Version.{Version}
 use Rattle.link_versions.specs.Classes.{Class, Kind, OfFile, OfArray}
 use Rattle.link_versions.specs.Orders.{lookup_order, superclasses}

@@ -4,7 +4,7 @@ use Rattle.ti_ids.specs.declared.number.ClassNo.{ClassNo}
 use Rattle.ti_ids.specs.declared.number.VersionNo.{VersionNo}
 use Rattle.jv_names.specs.Names.{Name}
 use Rattle.class_tree.specs.Trees.{Tree}
-use Rattle.link_versions.specs.declared.class.InitState.{InitState}
+use Rattle.ti_ids.specs.declared.state.InitState.{InitState}
 use Rattle.link_versions.specs.Classes.{Class, class_at, number_of, version_at, newest_version, next_version}
 use Rattle.link_versions.specs.Orders.{lookup_order, superclasses}
 use Rattle.link_versions.specs.Changes.{IsThere, IsOfFile, with_class, with_version, file_class}

@@ -8,14 +8,14 @@ ghost use Rattle.link_versions.specs.Changes.{element_by, IsElementThere, IsArra
 ghost use Rattle.link_versions.specs.Entries.{class_of, IsSound};
 
 use crate::Classes;
-use crate::class::{Element, Entry, EntryKind, InitState};
+use crate::class::{Element, Entry, EntryKind};
 use crate::order::{collect_order, collect_supers};
 use jv_names::{
     CLONEABLE, Desc, DescFault, ElementType, FieldType, OBJECT, SERIALIZABLE, Units, field_desc,
 };
 use sqlite_items::Items;
 use std::alloc::{AllocError, Global};
-use ti_ids::ClassNo;
+use ti_ids::{ClassNo, InitState};
 
 /// The type of which a name is the descriptor.
 fn array_type(alloc: Global, name: &Units) -> Result<FieldType, AllocError>

@@ -7,18 +7,7 @@ use class_tree::ClassFile;
 use jv_names::Units;
 use sqlite_items::Items;
 use std::alloc::AllocError;
-use ti_ids::{ClassNo, ThreadNo};
-
-/// How far a class is, from its loading to its initialization (5.3 to 5.5). `InProgress` names the thread that initializes it, and
-/// `Erroneous` says that its initialization failed.
-#[derive(Clone, Copy)]
-pub enum InitState {
-    Loaded,
-    Linked,
-    InProgress(ThreadNo),
-    Initialized,
-    Erroneous,
-}
+use ti_ids::{ClassNo, InitState};
 
 /// What is left of an array type when its dimensions are taken off (2.4).
 #[derive(Clone, Copy)]

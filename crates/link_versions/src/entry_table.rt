@@ -2,10 +2,11 @@
 ghost use Rattle.std.specs.Prelude.{◌≡◌, ◌<◌, [], ◌∷◌, ◌++◌, length, position, slice_get, None, IfSome, OnOk, OnErr, option_copied};
 ghost use Rattle.link_versions.specs.Entries.{has_name, changed_at, with_added, with_init_state, IsFileEntry};
 
-use crate::class::{Entry, InitState, Version};
+use crate::class::{Entry, Version};
 use indexmap::IndexMap;
 use std::alloc::{AllocError, Global};
 use std::marker::Model;
+use ti_ids::InitState;
 
 /// Entries by their names. Contracts see them as a list, in the order of their definition.
 #[derive(Drop)]

@@ -15,7 +15,7 @@ mod table;
 mod version;
 mod versions;
 
-pub use class::{Element, InitState};
+pub use class::Element;
 pub use fault::LinkFault;
 pub use laws::class_laws;
 pub use table::Classes;

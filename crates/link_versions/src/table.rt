@@ -7,7 +7,7 @@ ghost use Rattle.link_versions.specs.Resolution.{found_or, resolved_field, resol
 ghost use Rattle.link_versions.specs.Changes.{IsThere, CanDefine, interfaces_by, file_class, AreLawful};
 ghost use Rattle.link_versions.specs.Entries.{class_of, IsSound};
 
-use crate::class::{Entry, EntryKind, InitState, Version};
+use crate::class::{Entry, EntryKind, Version};
 use crate::entry_table::Table;
 use crate::order::{collect_order, collect_supers};
 use crate::{LinkFault, entries, method, subtype};
@@ -16,7 +16,7 @@ use jv_names::{OBJECT, Units};
 use sqlite_items::Items;
 use std::alloc::{AllocError, Global};
 use std::marker::Model;
-use ti_ids::{ClassNo, FieldNo, MethodNo, VersionNo};
+use ti_ids::{ClassNo, FieldNo, InitState, MethodNo, VersionNo};
 
 /// The name of a file's class.
 fn own_name(alloc: Global, tree: &ClassFile) -> Result<Units, AllocError>

@@ -5,12 +5,12 @@ ghost use Rattle.link_versions.specs.Classes.{version_count, newest_version, nex
 ghost use Rattle.link_versions.specs.Changes.{IsThere, IsOfFile, CanInstall, with_class, with_version, with_state};
 ghost use Rattle.link_versions.specs.ReadyCode.{code_in};
 
-use crate::class::{InitState, Version};
+use crate::class::Version;
 use crate::{Classes, entries};
 use class_code::Instr;
 use class_tree::ClassFile;
 use std::alloc::AllocError;
-use ti_ids::{ClassNo, MethodNo, VersionNo};
+use ti_ids::{ClassNo, InitState, MethodNo, VersionNo};
 
 impl Classes {
     /// Installs a version of a class of a file, and gives its number. It is the newest one from then on; the earlier ones stay.

@@ -73,6 +73,7 @@ load_told (Some states.Loaded) e = absurd cc
 load_told (Some states.Linked) e = absurd cc
 load_told (Some (states.InProgress t)) e = absurd cc
 load_told (Some states.Initialized) e = absurd cc
+load_told (Some states.Erroneous) e = absurd cc
 
 pub some_told : (x : Option InitState) (r : ThreadRule) → entry_rule x ≡ r → (r ≡ rules.Load → ⊥) → is_some x ≡ true
 some_told None r e not = absurd (not (sym e))
@@ -84,6 +85,7 @@ entry_never (Some states.Loaded) r e = (λ k. absurd cc, λ k. absurd cc)
 entry_never (Some states.Linked) r e = (λ k. absurd cc, λ k. absurd cc)
 entry_never (Some (states.InProgress t)) r e = (λ k. absurd cc, λ k. absurd cc)
 entry_never (Some states.Initialized) r e = (λ k. absurd cc, λ k. absurd cc)
+entry_never (Some states.Erroneous) r e = (λ k. absurd cc, λ k. absurd cc)
 
 pub init_told : (a : ThreadState) (frames : List core.Frame) (x : Option InitState) → rule_for a frames (entry_rule x) ≡ Some rules.EndInit → (n : List ℕ) × (place : ℕ) × (below : List core.Frame) × (frames ≡ Init n place ∷ below)
 init_told Unbegun frames x is = absurd cc

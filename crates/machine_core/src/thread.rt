@@ -115,6 +115,7 @@ fn rule_of_entry(class: Option<InitState>) -> ThreadRule
         Some(InitState::Linked) => ThreadRule::BeginInit,
         Some(InitState::InProgress(_)) => ThreadRule::Enter,
         Some(InitState::Initialized) => ThreadRule::Enter,
+        Some(InitState::Erroneous) => ThreadRule::Enter,
     }
 }
 

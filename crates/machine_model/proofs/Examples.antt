@@ -21,7 +21,7 @@ use Rattle.report_text.specs.Stated.{stated}
 use Rattle.machine_model.specs.Jobs.{Job}
 use Rattle.machine_model.specs.Replay.{opening}
 use Rattle.machine_model.specs.Picks.{picked}
-use Rattle.machine_model.specs.Results as results
+use Rattle.job_words.specs.declared.refusal.Refusal.TheVariants as refusals
 use Rattle.machine_model.specs.Results.{Result, Refused, Accepted, not_yet, result_of, result_of_file, result_text, job_of, picked_end}
 
 abbrev add : MainClass
@@ -72,14 +72,14 @@ unfolding stated
 stated-report = rw result_text-words refl
 
 -- another name is the file's fault, and an absent file is told before it
-result_of-other : result_of (codes "run" ∷ codes "--main" ∷ codes "Sub" ∷ codes "--class" ∷ codes "Add.class" ∷ []) files ≡ Refused (results.BadClass not_yet)
+result_of-other : result_of (codes "run" ∷ codes "--main" ∷ codes "Sub" ∷ codes "--class" ∷ codes "Add.class" ∷ []) files ≡ Refused (refusals.BadClass 1 not_yet)
 unfolding class_of name_and_code after counted_at number_at u1 u2 u4 raw many counted class_end dimensions split_class split_dimensions read_class read_element read_type read_field read_result read_method field_flaw method_flaw unit_at unit_bytes form_at bytes_of.u2
 result_of-other = refl
 
-result_of-absent : result_of (codes "run" ∷ codes "--main" ∷ codes "Add" ∷ codes "--class" ∷ codes "Sub.class" ∷ []) files ≡ Refused results.Absent
+result_of-absent : result_of (codes "run" ∷ codes "--main" ∷ codes "Add" ∷ codes "--class" ∷ codes "Sub.class" ∷ []) files ≡ Refused (refusals.Absent 1)
 result_of-absent = refl
 
-result_of-few : result_of (codes "run" ∷ codes "--main" ∷ codes "Add" ∷ []) files ≡ Refused results.Usage
+result_of-few : result_of (codes "run" ∷ codes "--main" ∷ codes "Add" ∷ []) files ≡ Refused refusals.Usage
 result_of-few = refl
 
 -- ---- files with a fault

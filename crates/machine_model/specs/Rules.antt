@@ -78,6 +78,8 @@ entry_rule (Some states.Loaded) = rules.Link
 entry_rule (Some states.Linked) = rules.BeginInit
 entry_rule (Some (states.InProgress t)) = rules.Enter
 entry_rule (Some states.Initialized) = rules.Enter
+-- nothing throws in this machine, so that no class becomes erroneous
+entry_rule (Some states.Erroneous) = rules.Enter
 
 -- a thread that has begun goes by its top frame
 abbrev pub frame_rule : List Frame → ThreadRule → ThreadRule

@@ -35,3 +35,13 @@ pub mod JavaSupersRow
 pub mod JavaSwitchesRow
 pub mod JavaHandsRow
 pub mod JavaSharedRow
+pub mod Computing
+pub mod BreakpointTwice
+pub mod InstallingClearsBreakpoints
+pub mod TagsOfEachEnvironment
+pub mod EveryEventHeard
+pub mod MonitorsHeard
+pub mod TransformerRemoved
+pub mod BytesOfAMethod
+pub mod MethodsCompared
+pub mod StatusesSeen

@@ -32,7 +32,7 @@ use Rattle.machine_steps.specs.Reports.{report}
 use Rattle.machine_rows.specs.Rows.{edges, edges_schedule, edges_text, NumberEdges}
 
 -- the schedule that one worker picks
-pub schedule : picked edges ≡ edges_schedule
+pub schedule : picked edges.job.limits.slice edges ≡ edges_schedule
 unfolding opening linked u1 u2 u4 s4 u8 s8 raw many counted type_at frame_at class_end dimensions split_class split_dimensions read_class read_element read_type read_field read_result read_method field_flaw method_flaw unit_at unit_bytes form_at bytes_of.u2 first_version version_at version_count class_has declared_field declared_method method_at method_name method_desc method_has declared_virtual lookup_order superclasses ready ready_code code_in resolved_field candidate candidates is_overridden concrete_ones from_superinterfaces from_superclasses from_object resolved_method selected_by selected type_of is_element_below is_array_below is_type_below is_subclass digits int_wrap utf16_chars lib.Utf8.encode report_text printed rule pool_rule simple_rule stack_rule is_assignable
 schedule = refl
 

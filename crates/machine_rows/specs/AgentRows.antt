@@ -10,12 +10,12 @@ use Rattle.jv_names.specs.Names.{Name}
 use Rattle.machine_state.specs.Jobs as jobs
 use Rattle.machine_state.specs.Jobs.{Job, Native, Constant, AddCapabilities, SetEventNotificationMode, SetBreakpoint, UseRules, RetransformClasses}
 use Rattle.machine_state.specs.Versions.{Turns}
-use Rattle.machine_steps.specs.Settings.{Setting}
+use Rattle.machine_steps.specs.World.{World}
 use Rattle.machine_rows.specs.Rows.{job_of, thread, IsRow}
 use Rattle.machine_rows.specs.AgentCalls.{answers_of}
 
 -- a job with an agent, and what the agent's calls and its rules do
-abbrev pub with_agent : jobs.Agent → Turns → Job → Setting
+abbrev pub with_agent : jobs.Agent → Turns → Job → World
 with_agent agent turns job = let whole = record job { agents = agent ∷ [] } in record { job = whole; turns = turns; answers = answers_of whole turns }
 
 -- ---- retransform while running
@@ -56,7 +56,7 @@ one = record {
       ∷ [];
 }
 
-abbrev pub running : Setting
+abbrev pub running : World
 running = with_agent one loop_turns (job_of (codes "Loop") (record { name = codes "Loop"; bytes = loop_file } ∷ []) 1000)
 
 abbrev pub running_schedule : List Actor
@@ -99,7 +99,7 @@ stepper = record {
       ∷ [];
 }
 
-abbrev pub either : Setting
+abbrev pub either : World
 either = with_agent stepper (λ env set class bytes. None) (job_of (codes "Two") (record { name = codes "Two"; bytes = two_file } ∷ []) 1000)
 
 abbrev pub either_schedule : List Actor

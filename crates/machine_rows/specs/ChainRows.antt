@@ -8,13 +8,13 @@ use Rattle.ti_codes.specs.declared.event.EventKind.TheVariants as kinds
 use Rattle.machine_state.specs.Jobs as jobs
 use Rattle.machine_state.specs.Jobs.{Job, Native, Constant, WholeFile, AddCapabilities, SetEventNotificationMode, SetBreakpoint, UseRules, RetransformClasses, AddTransformer, GetStackTrace}
 use Rattle.machine_state.specs.Versions.{Turns}
-use Rattle.machine_steps.specs.Settings.{Setting}
+use Rattle.machine_steps.specs.World.{World}
 use Rattle.machine_rows.specs.Rows.{job_of, thread, IsRow}
 use Rattle.machine_rows.specs.AgentCalls.{answers_of}
 use Rattle.machine_rows.specs.AgentRows.{loop_file, loop_turns}
 
 -- a job with these agents, and what their calls and rules do
-abbrev pub with_agents : List jobs.Agent → Turns → Job → Setting
+abbrev pub with_agents : List jobs.Agent → Turns → Job → World
 with_agents agents turns job = let whole = record job { agents = agents } in record { job = whole; turns = turns; answers = answers_of whole turns }
 
 abbrev pub loop_job : Job
@@ -33,7 +33,7 @@ hooked_1 = record {
   callbacks = [];
 }
 
-abbrev pub hooked : Setting
+abbrev pub hooked : World
 hooked = with_agents (hooked_1 ∷ []) loop_turns loop_job
 
 abbrev pub hooked_schedule : List Actor
@@ -69,7 +69,7 @@ incapable_2 = record {
   callbacks = record { event = kinds.ClassPrepare; class = None; thread = None; calls = RetransformClasses (codes "Loop" ∷ []) ∷ [] } ∷ [];
 }
 
-abbrev pub incapable : Setting
+abbrev pub incapable : World
 incapable = with_agents (incapable_1 ∷ incapable_2 ∷ []) loop_turns loop_job
 
 abbrev pub incapable_schedule : List Actor
@@ -94,7 +94,7 @@ obsolete_1 = record {
   callbacks = record { event = kinds.ClassPrepare; class = None; thread = None; calls = SetBreakpoint (codes "Loop") (codes "f") (codes "()V") 0 ∷ [] } ∷ record { event = kinds.Breakpoint; class = None; thread = None; calls = UseRules (codes "nine") ∷ RetransformClasses (codes "Loop" ∷ []) ∷ UseRules (codes "plain") ∷ RetransformClasses (codes "Loop" ∷ []) ∷ GetStackTrace 0 ∷ [] } ∷ [];
 }
 
-abbrev pub obsolete : Setting
+abbrev pub obsolete : World
 obsolete = with_agents (obsolete_1 ∷ []) loop_turns loop_job
 
 abbrev pub obsolete_schedule : List Actor
@@ -152,7 +152,7 @@ groups_4 = record {
   callbacks = [];
 }
 
-abbrev pub groups : Setting
+abbrev pub groups : World
 groups = with_agents (groups_1 ∷ groups_2 ∷ groups_3 ∷ groups_4 ∷ []) loop_turns loop_job
 
 abbrev pub groups_schedule : List Actor

@@ -9,7 +9,7 @@ use Rattle.ti_codes.specs.declared.event.EventKind.TheVariants as kinds
 use Rattle.jv_names.specs.Names.{Name}
 use Rattle.machine_state.specs.Jobs as jobs
 use Rattle.machine_state.specs.Jobs.{Job, Native, Constant, WholeFile, AddCapabilities, SetEventNotificationMode, SetBreakpoint, UseRules, RetransformClasses, AddTransformer, GetStackTrace}
-use Rattle.machine_steps.specs.Settings.{Setting}
+use Rattle.machine_steps.specs.World.{World}
 use Rattle.machine_rows.specs.Rows.{thread, IsRow}
 use Rattle.machine_rows.specs.AgentRows.{loop_turns}
 use Rattle.machine_rows.specs.LimitRows.{with_steps}
@@ -32,7 +32,7 @@ broken_1 = record {
 abbrev pub broken_turns : EnvNo → Name → Name → List ℕ → Option (List ℕ)
 broken_turns env set class bytes = if bytes_eq set (codes "bad") then Some (0 ∷ 1 ∷ 2 ∷ []) else None
 
-abbrev pub broken : Setting
+abbrev pub broken : World
 broken = with_agents (broken_1 ∷ []) broken_turns loop_job
 
 abbrev pub broken_schedule : List Actor
@@ -57,7 +57,7 @@ restless_1 = record {
   callbacks = record { event = kinds.ClassFileLoadHook; class = None; thread = None; calls = RetransformClasses (codes "Loop" ∷ []) ∷ [] } ∷ [];
 }
 
-abbrev pub restless : Setting
+abbrev pub restless : World
 restless = with_agents (restless_1 ∷ []) loop_turns (with_steps 20 loop_job)
 
 abbrev pub restless_schedule : List Actor

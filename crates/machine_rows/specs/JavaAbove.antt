@@ -1,7 +1,7 @@
 -- The program examples/programs/Above.java by `javac --release 8 -g:none`, and what `java` prints of it.
 use Rattle.std.specs.Prelude.{ℕ, List, [], ◌∷◌, codes}
-use Rattle.machine_steps.specs.Settings.{Setting}
-use Rattle.machine_rows.specs.Rows.{job_of, setting_of}
+use Rattle.machine_steps.specs.World.{World}
+use Rattle.machine_rows.specs.Rows.{job_of, world_of}
 use Rattle.machine_rows.specs.Printed.{Prints}
 
 -- Shape
@@ -48,8 +48,8 @@ above_3 =
     36 ∷ 0 ∷ 3 ∷ 0 ∷ 2 ∷ 0 ∷ 0 ∷ 0 ∷ 24 ∷ 187 ∷ 0 ∷ 7 ∷ 89 ∷ 6 ∷ 183 ∷ 0 ∷ 9 ∷ 76 ∷ 178 ∷ 0 ∷ 12 ∷ 43 ∷ 182 ∷ 0 ∷ 18 ∷ 178 ∷ 0 ∷ 24 ∷ 96 ∷ 182 ∷ 0 ∷ 28 ∷
     177 ∷ 0 ∷ 0 ∷ 0 ∷ 0 ∷ 0 ∷ 0 ∷ []
 
-abbrev pub above : Setting
-above = setting_of (job_of (codes "Above") (record { name = codes "Shape"; bytes = above_1 } ∷ record { name = codes "Cube"; bytes = above_2 } ∷ record { name = codes "Above"; bytes = above_3 } ∷ []) 1000)
+abbrev pub above : World
+above = world_of (job_of (codes "Above") (record { name = codes "Shape"; bytes = above_1 } ∷ record { name = codes "Cube"; bytes = above_2 } ∷ record { name = codes "Above"; bytes = above_3 } ∷ []) 1000)
 
 abbrev pub AbovePrint : Type 0
 AbovePrint = Prints above (codes "shapes\n60\n")

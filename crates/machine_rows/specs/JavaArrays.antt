@@ -1,7 +1,7 @@
 -- The program examples/programs/Arrays.java by `javac --release 8 -g:none`, and what `java` prints of it.
 use Rattle.std.specs.Prelude.{ℕ, List, [], ◌∷◌, codes}
-use Rattle.machine_steps.specs.Settings.{Setting}
-use Rattle.machine_rows.specs.Rows.{job_of, setting_of}
+use Rattle.machine_steps.specs.World.{World}
+use Rattle.machine_rows.specs.Rows.{job_of, world_of}
 use Rattle.machine_rows.specs.Printed.{Prints}
 
 -- Arrays
@@ -28,8 +28,8 @@ arrays_1 =
     0 ∷ 79 ∷ 0 ∷ 83 ∷ 0 ∷ 86 ∷ 0 ∷ 26 ∷ 0 ∷ 1 ∷ 0 ∷ 38 ∷ 0 ∷ 0 ∷ 0 ∷ 25 ∷ 0 ∷ 2 ∷ 255 ∷ 0 ∷ 86 ∷ 0 ∷ 4 ∷ 7 ∷ 0 ∷ 39 ∷ 7 ∷ 0 ∷ 41 ∷ 7 ∷ 0 ∷ 43 ∷
     7 ∷ 0 ∷ 24 ∷ 0 ∷ 1 ∷ 7 ∷ 0 ∷ 26 ∷ 9 ∷ 0 ∷ 0 ∷ []
 
-abbrev pub arrays : Setting
-arrays = setting_of (job_of (codes "Arrays") (record { name = codes "Arrays"; bytes = arrays_1 } ∷ []) 1000)
+abbrev pub arrays : World
+arrays = world_of (job_of (codes "Arrays") (record { name = codes "Arrays"; bytes = arrays_1 } ∷ []) 1000)
 
 abbrev pub ArraysPrint : Type 0
 ArraysPrint = Prints arrays (codes "32\n-56\n7\npast the end\n")

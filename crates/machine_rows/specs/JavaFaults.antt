@@ -1,7 +1,7 @@
 -- The program examples/programs/Faults.java by `javac --release 8 -g:none`, and what `java` prints of it.
 use Rattle.std.specs.Prelude.{ℕ, List, [], ◌∷◌, codes}
-use Rattle.machine_steps.specs.Settings.{Setting}
-use Rattle.machine_rows.specs.Rows.{job_of, setting_of}
+use Rattle.machine_steps.specs.World.{World}
+use Rattle.machine_rows.specs.Rows.{job_of, world_of}
 use Rattle.machine_rows.specs.Printed.{Prints}
 
 -- Lost
@@ -42,8 +42,8 @@ faults_2 =
     182 ∷ 0 ∷ 22 ∷ 177 ∷ 0 ∷ 2 ∷ 0 ∷ 0 ∷ 0 ∷ 10 ∷ 0 ∷ 13 ∷ 0 ∷ 7 ∷ 0 ∷ 26 ∷ 0 ∷ 36 ∷ 0 ∷ 39 ∷ 0 ∷ 45 ∷ 0 ∷ 1 ∷ 0 ∷ 50 ∷ 0 ∷ 0 ∷ 0 ∷ 24 ∷ 0 ∷ 4 ∷
     77 ∷ 7 ∷ 0 ∷ 7 ∷ 10 ∷ 255 ∷ 0 ∷ 14 ∷ 0 ∷ 2 ∷ 7 ∷ 0 ∷ 56 ∷ 7 ∷ 0 ∷ 40 ∷ 0 ∷ 1 ∷ 7 ∷ 0 ∷ 45 ∷ 8 ∷ 0 ∷ 0 ∷ []
 
-abbrev pub faults : Setting
-faults = setting_of (job_of (codes "Faults") (record { name = codes "Lost"; bytes = faults_1 } ∷ record { name = codes "Faults"; bytes = faults_2 } ∷ []) 1000)
+abbrev pub faults : World
+faults = world_of (job_of (codes "Faults") (record { name = codes "Lost"; bytes = faults_1 } ∷ record { name = codes "Faults"; bytes = faults_2 } ∷ []) 1000)
 
 abbrev pub FaultsPrint : Type 0
 FaultsPrint = Prints faults (codes "turn\nnought\nnull\n")

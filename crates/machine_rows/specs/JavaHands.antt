@@ -2,8 +2,8 @@
 use Rattle.std.specs.Prelude.{ℕ, List, [], ◌∷◌, ◌++◌, codes, replicate}
 use Rattle.ti_ids.specs.declared.actor.Actor.{Actor}
 use Rattle.ti_ids.specs.declared.actor.Actor.TheVariants.{Vm}
-use Rattle.machine_steps.specs.Settings.{Setting}
-use Rattle.machine_rows.specs.Rows.{job_of, setting_of, thread}
+use Rattle.machine_steps.specs.World.{World}
+use Rattle.machine_rows.specs.Rows.{job_of, world_of, thread}
 use Rattle.machine_rows.specs.Printed.{PrintsAlong}
 
 -- Hands
@@ -38,8 +38,8 @@ hands_1 =
     7 ∷ 0 ∷ 53 ∷ 250 ∷ 0 ∷ 4 ∷ 0 ∷ 57 ∷ 0 ∷ 0 ∷ 0 ∷ 4 ∷ 0 ∷ 1 ∷ 0 ∷ 58 ∷ 0 ∷ 8 ∷ 0 ∷ 60 ∷ 0 ∷ 6 ∷ 0 ∷ 1 ∷ 0 ∷ 50 ∷ 0 ∷ 0 ∷ 0 ∷ 23 ∷ 0 ∷ 2 ∷
     0 ∷ 0 ∷ 0 ∷ 0 ∷ 0 ∷ 11 ∷ 187 ∷ 0 ∷ 30 ∷ 89 ∷ 183 ∷ 0 ∷ 49 ∷ 179 ∷ 0 ∷ 7 ∷ 177 ∷ 0 ∷ 0 ∷ 0 ∷ 0 ∷ 0 ∷ 0 ∷ []
 
-abbrev pub hands : Setting
-hands = setting_of (job_of (codes "Hands") (record { name = codes "Hands"; bytes = hands_1 } ∷ []) 1000)
+abbrev pub hands : World
+hands = world_of (job_of (codes "Hands") (record { name = codes "Hands"; bytes = hands_1 } ∷ []) 1000)
 
 abbrev pub hands_schedule : List Actor
 hands_schedule = replicate 2 Vm ++ replicate 32 (thread 1) ++ replicate 18 (thread 2) ++ replicate 19 (thread 1)

@@ -1,7 +1,7 @@
 -- The program examples/programs/Names.java by `javac --release 8 -g:none`, and what `java` prints of it.
 use Rattle.std.specs.Prelude.{ℕ, List, [], ◌∷◌, codes}
-use Rattle.machine_steps.specs.Settings.{Setting}
-use Rattle.machine_rows.specs.Rows.{job_of, setting_of}
+use Rattle.machine_steps.specs.World.{World}
+use Rattle.machine_rows.specs.Rows.{job_of, world_of}
 use Rattle.machine_rows.specs.Printed.{Prints}
 
 -- Named
@@ -47,8 +47,8 @@ names_3 =
     0 ∷ 0 ∷ 0 ∷ 31 ∷ 187 ∷ 0 ∷ 7 ∷ 89 ∷ 183 ∷ 0 ∷ 9 ∷ 76 ∷ 178 ∷ 0 ∷ 10 ∷ 43 ∷ 185 ∷ 0 ∷ 16 ∷ 1 ∷ 0 ∷ 182 ∷ 0 ∷ 22 ∷ 178 ∷ 0 ∷ 10 ∷ 43 ∷ 193 ∷ 0 ∷ 7 ∷ 182 ∷
     0 ∷ 28 ∷ 177 ∷ 0 ∷ 0 ∷ 0 ∷ 0 ∷ 0 ∷ 0 ∷ []
 
-abbrev pub names : Setting
-names = setting_of (job_of (codes "Names") (record { name = codes "Named"; bytes = names_1 } ∷ record { name = codes "Square"; bytes = names_2 } ∷ record { name = codes "Names"; bytes = names_3 } ∷ []) 1000)
+abbrev pub names : World
+names = world_of (job_of (codes "Names") (record { name = codes "Named"; bytes = names_1 } ∷ record { name = codes "Square"; bytes = names_2 } ∷ record { name = codes "Names"; bytes = names_3 } ∷ []) 1000)
 
 abbrev pub NamesPrint : Type 0
 NamesPrint = Prints names (codes "a square\ntrue\n")

@@ -1,7 +1,7 @@
 -- The program examples/programs/Numbers.java by `javac --release 8 -g:none`, and what `java` prints of it.
 use Rattle.std.specs.Prelude.{ℕ, List, [], ◌∷◌, codes}
-use Rattle.machine_steps.specs.Settings.{Setting}
-use Rattle.machine_rows.specs.Rows.{job_of, setting_of}
+use Rattle.machine_steps.specs.World.{World}
+use Rattle.machine_rows.specs.Rows.{job_of, world_of}
 use Rattle.machine_rows.specs.Printed.{Prints}
 
 -- Numbers
@@ -25,8 +25,8 @@ numbers_1 =
     0 ∷ 0 ∷ 1 ∷ 0 ∷ 37 ∷ 0 ∷ 0 ∷ 0 ∷ 33 ∷ 0 ∷ 2 ∷ 255 ∷ 0 ∷ 76 ∷ 0 ∷ 3 ∷ 7 ∷ 0 ∷ 38 ∷ 1 ∷ 4 ∷ 0 ∷ 1 ∷ 7 ∷ 0 ∷ 15 ∷ 255 ∷ 0 ∷ 3 ∷ 0 ∷ 3 ∷ 7 ∷
     0 ∷ 38 ∷ 1 ∷ 4 ∷ 0 ∷ 2 ∷ 7 ∷ 0 ∷ 15 ∷ 1 ∷ 0 ∷ 0 ∷ []
 
-abbrev pub numbers : Setting
-numbers = setting_of (job_of (codes "Numbers") (record { name = codes "Numbers"; bytes = numbers_1 } ∷ []) 1000)
+abbrev pub numbers : World
+numbers = world_of (job_of (codes "Numbers") (record { name = codes "Numbers"; bytes = numbers_1 } ∷ []) 1000)
 
 abbrev pub NumbersPrint : Type 0
 NumbersPrint = Prints numbers (codes "-2147483648\n-9223372036854775793\na\n4591\n-2\n-1\n")

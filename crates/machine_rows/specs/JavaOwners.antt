@@ -1,7 +1,7 @@
 -- The program examples/programs/Owners.java by `javac --release 8 -g:none`, and what `java` prints of it.
 use Rattle.std.specs.Prelude.{ℕ, List, [], ◌∷◌, codes}
-use Rattle.machine_steps.specs.Settings.{Setting}
-use Rattle.machine_rows.specs.Rows.{job_of, setting_of}
+use Rattle.machine_steps.specs.World.{World}
+use Rattle.machine_rows.specs.Rows.{job_of, world_of}
 use Rattle.machine_rows.specs.Printed.{Prints}
 
 -- Owners
@@ -37,8 +37,8 @@ owners_1 =
     57 ∷ 250 ∷ 0 ∷ 4 ∷ 255 ∷ 0 ∷ 25 ∷ 0 ∷ 3 ∷ 7 ∷ 0 ∷ 55 ∷ 7 ∷ 0 ∷ 2 ∷ 7 ∷ 0 ∷ 30 ∷ 0 ∷ 1 ∷ 7 ∷ 0 ∷ 25 ∷ 255 ∷ 0 ∷ 0 ∷ 0 ∷ 3 ∷ 7 ∷ 0 ∷ 55 ∷ 7 ∷
     0 ∷ 2 ∷ 7 ∷ 0 ∷ 30 ∷ 0 ∷ 2 ∷ 7 ∷ 0 ∷ 25 ∷ 1 ∷ 0 ∷ 59 ∷ 0 ∷ 0 ∷ 0 ∷ 4 ∷ 0 ∷ 1 ∷ 0 ∷ 60 ∷ 0 ∷ 0 ∷ []
 
-abbrev pub owners : Setting
-owners = setting_of (job_of (codes "Owners") (record { name = codes "Owners"; bytes = owners_1 } ∷ []) 1000)
+abbrev pub owners : World
+owners = world_of (job_of (codes "Owners") (record { name = codes "Owners"; bytes = owners_1 } ∷ []) 1000)
 
 abbrev pub OwnersPrint : Type 0
 OwnersPrint = Prints owners (codes "2\n1\nfalse\njoined\n")

@@ -1,7 +1,7 @@
 -- The program examples/programs/Same.java by `javac --release 8 -g:none`, and what `java` prints of it.
 use Rattle.std.specs.Prelude.{ℕ, List, [], ◌∷◌, codes}
-use Rattle.machine_steps.specs.Settings.{Setting}
-use Rattle.machine_rows.specs.Rows.{job_of, setting_of}
+use Rattle.machine_steps.specs.World.{World}
+use Rattle.machine_rows.specs.Rows.{job_of, world_of}
 use Rattle.machine_rows.specs.Printed.{Prints}
 
 -- Same
@@ -36,8 +36,8 @@ same_1 =
     0 ∷ 39 ∷ 7 ∷ 0 ∷ 2 ∷ 0 ∷ 1 ∷ 7 ∷ 0 ∷ 33 ∷ 255 ∷ 0 ∷ 0 ∷ 0 ∷ 4 ∷ 7 ∷ 0 ∷ 56 ∷ 7 ∷ 0 ∷ 7 ∷ 7 ∷ 0 ∷ 39 ∷ 7 ∷ 0 ∷ 2 ∷ 0 ∷ 2 ∷ 7 ∷ 0 ∷ 33 ∷
     1 ∷ 0 ∷ 0 ∷ []
 
-abbrev pub same : Setting
-same = setting_of (job_of (codes "Same") (record { name = codes "Same"; bytes = same_1 } ∷ []) 1000)
+abbrev pub same : World
+same = world_of (job_of (codes "Same") (record { name = codes "Same"; bytes = same_1 } ∷ []) 1000)
 
 abbrev pub SamePrint : Type 0
 SamePrint = Prints same (codes "false\ntrue\ntrue\ntrue\nfalse\n")

@@ -2,8 +2,8 @@
 use Rattle.std.specs.Prelude.{ℕ, List, [], ◌∷◌, ◌++◌, codes, replicate}
 use Rattle.ti_ids.specs.declared.actor.Actor.{Actor}
 use Rattle.ti_ids.specs.declared.actor.Actor.TheVariants.{Vm}
-use Rattle.machine_steps.specs.Settings.{Setting}
-use Rattle.machine_rows.specs.Rows.{job_of, setting_of, thread}
+use Rattle.machine_steps.specs.World.{World}
+use Rattle.machine_rows.specs.Rows.{job_of, world_of, thread}
 use Rattle.machine_rows.specs.Printed.{PrintsAlong}
 
 -- Shared
@@ -38,8 +38,8 @@ shared_1 =
     0 ∷ 0 ∷ 32 ∷ 0 ∷ 4 ∷ 255 ∷ 0 ∷ 34 ∷ 0 ∷ 4 ∷ 7 ∷ 0 ∷ 54 ∷ 7 ∷ 0 ∷ 8 ∷ 7 ∷ 0 ∷ 17 ∷ 7 ∷ 0 ∷ 2 ∷ 0 ∷ 1 ∷ 7 ∷ 0 ∷ 56 ∷ 250 ∷ 0 ∷ 6 ∷ 84 ∷ 7 ∷
     0 ∷ 40 ∷ 8 ∷ 0 ∷ 58 ∷ 0 ∷ 0 ∷ 0 ∷ 4 ∷ 0 ∷ 1 ∷ 0 ∷ 59 ∷ 0 ∷ 0 ∷ []
 
-abbrev pub shared : Setting
-shared = setting_of (job_of (codes "Shared") (record { name = codes "Shared"; bytes = shared_1 } ∷ []) 1000)
+abbrev pub shared : World
+shared = world_of (job_of (codes "Shared") (record { name = codes "Shared"; bytes = shared_1 } ∷ []) 1000)
 
 abbrev pub shared_schedule : List Actor
 shared_schedule = replicate 2 Vm ++ replicate 38 (thread 1) ++ replicate 13 (thread 2) ++ replicate 14 (thread 1)

@@ -1,7 +1,7 @@
 -- The program examples/programs/Starting.java by `javac --release 8 -g:none`, and what `java` prints of it.
 use Rattle.std.specs.Prelude.{ℕ, List, [], ◌∷◌, codes}
-use Rattle.machine_steps.specs.Settings.{Setting}
-use Rattle.machine_rows.specs.Rows.{job_of, setting_of}
+use Rattle.machine_steps.specs.World.{World}
+use Rattle.machine_rows.specs.Rows.{job_of, world_of}
 use Rattle.machine_rows.specs.Printed.{Prints}
 
 -- Bad
@@ -48,8 +48,8 @@ starting_3 =
     2 ∷ 0 ∷ 0 ∷ 0 ∷ 3 ∷ 0 ∷ 6 ∷ 0 ∷ 12 ∷ 0 ∷ 15 ∷ 0 ∷ 18 ∷ 0 ∷ 21 ∷ 0 ∷ 28 ∷ 0 ∷ 1 ∷ 0 ∷ 37 ∷ 0 ∷ 0 ∷ 0 ∷ 12 ∷ 0 ∷ 4 ∷ 70 ∷ 7 ∷ 0 ∷ 12 ∷ 8 ∷
     69 ∷ 7 ∷ 0 ∷ 28 ∷ 8 ∷ 0 ∷ 0 ∷ []
 
-abbrev pub starting : Setting
-starting = setting_of (job_of (codes "Starting") (record { name = codes "Bad"; bytes = starting_1 } ∷ record { name = codes "Integer0"; bytes = starting_2 } ∷ record { name = codes "Starting"; bytes = starting_3 } ∷ []) 1000)
+abbrev pub starting : World
+starting = world_of (job_of (codes "Starting") (record { name = codes "Bad"; bytes = starting_1 } ∷ record { name = codes "Integer0"; bytes = starting_2 } ∷ record { name = codes "Starting"; bytes = starting_3 } ∷ []) 1000)
 
 abbrev pub StartingPrint : Type 0
 StartingPrint = Prints starting (codes "failed\ngone\n")

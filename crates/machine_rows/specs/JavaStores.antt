@@ -1,7 +1,7 @@
 -- The program examples/programs/Stores.java by `javac --release 8 -g:none`, and what `java` prints of it.
 use Rattle.std.specs.Prelude.{ℕ, List, [], ◌∷◌, codes}
-use Rattle.machine_steps.specs.Settings.{Setting}
-use Rattle.machine_rows.specs.Rows.{job_of, setting_of}
+use Rattle.machine_steps.specs.World.{World}
+use Rattle.machine_rows.specs.Rows.{job_of, world_of}
 use Rattle.machine_rows.specs.Printed.{Prints}
 
 -- Stores
@@ -30,8 +30,8 @@ stores_1 =
     255 ∷ 0 ∷ 13 ∷ 0 ∷ 3 ∷ 7 ∷ 0 ∷ 28 ∷ 7 ∷ 0 ∷ 34 ∷ 7 ∷ 0 ∷ 11 ∷ 0 ∷ 1 ∷ 7 ∷ 0 ∷ 20 ∷ 255 ∷ 0 ∷ 0 ∷ 0 ∷ 3 ∷ 7 ∷ 0 ∷ 28 ∷ 7 ∷ 0 ∷ 34 ∷ 7 ∷ 0 ∷
     11 ∷ 0 ∷ 2 ∷ 7 ∷ 0 ∷ 20 ∷ 1 ∷ 250 ∷ 0 ∷ 2 ∷ 92 ∷ 7 ∷ 0 ∷ 30 ∷ 8 ∷ 0 ∷ 0 ∷ []
 
-abbrev pub stores : Setting
-stores = setting_of (job_of (codes "Stores") (record { name = codes "Stores"; bytes = stores_1 } ∷ []) 1000)
+abbrev pub stores : World
+stores = world_of (job_of (codes "Stores") (record { name = codes "Stores"; bytes = stores_1 } ∷ []) 1000)
 
 abbrev pub StoresPrint : Type 0
 StoresPrint = Prints stores (codes "true\nkept\ntrue\nnegative\ntrue\n")

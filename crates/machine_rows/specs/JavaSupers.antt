@@ -1,7 +1,7 @@
 -- The program examples/programs/Supers.java by `javac --release 8 -g:none`, and what `java` prints of it.
 use Rattle.std.specs.Prelude.{ℕ, List, [], ◌∷◌, codes}
-use Rattle.machine_steps.specs.Settings.{Setting}
-use Rattle.machine_rows.specs.Rows.{job_of, setting_of}
+use Rattle.machine_steps.specs.World.{World}
+use Rattle.machine_rows.specs.Rows.{job_of, world_of}
 use Rattle.machine_rows.specs.Printed.{Prints}
 
 -- Left
@@ -72,8 +72,8 @@ supers_5 =
     0 ∷ 32 ∷ 0 ∷ 1 ∷ 0 ∷ 30 ∷ 0 ∷ 0 ∷ 0 ∷ 33 ∷ 0 ∷ 2 ∷ 0 ∷ 2 ∷ 0 ∷ 0 ∷ 0 ∷ 21 ∷ 187 ∷ 0 ∷ 7 ∷ 89 ∷ 183 ∷ 0 ∷ 9 ∷ 76 ∷ 178 ∷ 0 ∷ 10 ∷ 43 ∷ 185 ∷ 0 ∷
     16 ∷ 1 ∷ 0 ∷ 182 ∷ 0 ∷ 22 ∷ 177 ∷ 0 ∷ 0 ∷ 0 ∷ 0 ∷ 0 ∷ 0 ∷ []
 
-abbrev pub supers : Setting
-supers = setting_of (job_of (codes "Supers") (record { name = codes "Left"; bytes = supers_1 } ∷ record { name = codes "Right"; bytes = supers_2 } ∷ record { name = codes "Both"; bytes = supers_3 } ∷ record { name = codes "More"; bytes = supers_4 } ∷ record { name = codes "Supers"; bytes = supers_5 } ∷ []) 1000)
+abbrev pub supers : World
+supers = world_of (job_of (codes "Supers") (record { name = codes "Left"; bytes = supers_1 } ∷ record { name = codes "Right"; bytes = supers_2 } ∷ record { name = codes "Both"; bytes = supers_3 } ∷ record { name = codes "More"; bytes = supers_4 } ∷ record { name = codes "Supers"; bytes = supers_5 } ∷ []) 1000)
 
 abbrev pub SupersPrint : Type 0
 SupersPrint = Prints supers (codes "own leftright!\n")

@@ -1,7 +1,7 @@
 -- The program examples/programs/Switches.java by `javac --release 8 -g:none`, and what `java` prints of it.
 use Rattle.std.specs.Prelude.{ℕ, List, [], ◌∷◌, codes}
-use Rattle.machine_steps.specs.Settings.{Setting}
-use Rattle.machine_rows.specs.Rows.{job_of, setting_of}
+use Rattle.machine_steps.specs.World.{World}
+use Rattle.machine_rows.specs.Rows.{job_of, world_of}
 use Rattle.machine_rows.specs.Printed.{Prints}
 
 -- Switches
@@ -30,8 +30,8 @@ switches_1 =
     3 ∷ 27 ∷ 16 ∷ 6 ∷ 161 ∷ 255 ∷ 245 ∷ 178 ∷ 0 ∷ 13 ∷ 27 ∷ 182 ∷ 0 ∷ 36 ∷ 177 ∷ 0 ∷ 0 ∷ 0 ∷ 1 ∷ 0 ∷ 40 ∷ 0 ∷ 0 ∷ 0 ∷ 7 ∷ 0 ∷ 2 ∷ 252 ∷ 0 ∷ 43 ∷ 1 ∷ 7 ∷
     0 ∷ 0 ∷ []
 
-abbrev pub switches : Setting
-switches = setting_of (job_of (codes "Switches") (record { name = codes "Switches"; bytes = switches_1 } ∷ []) 1000)
+abbrev pub switches : World
+switches = world_of (job_of (codes "Switches") (record { name = codes "Switches"; bytes = switches_1 } ∷ []) 1000)
 
 abbrev pub SwitchesPrint : Type 0
 SwitchesPrint = Prints switches (codes "million\nother\n50\n6\n")

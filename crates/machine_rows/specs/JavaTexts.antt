@@ -1,7 +1,7 @@
 -- The program examples/programs/Texts.java by `javac --release 8 -g:none`, and what `java` prints of it.
 use Rattle.std.specs.Prelude.{ℕ, List, [], ◌∷◌, codes}
-use Rattle.machine_steps.specs.Settings.{Setting}
-use Rattle.machine_rows.specs.Rows.{job_of, setting_of}
+use Rattle.machine_steps.specs.World.{World}
+use Rattle.machine_rows.specs.Rows.{job_of, world_of}
 use Rattle.machine_rows.specs.Printed.{Prints}
 
 -- Texts
@@ -38,8 +38,8 @@ texts_1 =
     0 ∷ 34 ∷ 18 ∷ 61 ∷ 182 ∷ 0 ∷ 40 ∷ 44 ∷ 192 ∷ 0 ∷ 63 ∷ 78 ∷ 167 ∷ 0 ∷ 12 ∷ 78 ∷ 178 ∷ 0 ∷ 34 ∷ 18 ∷ 67 ∷ 182 ∷ 0 ∷ 40 ∷ 177 ∷ 0 ∷ 1 ∷ 0 ∷ 102 ∷ 0 ∷ 107 ∷ 0 ∷
     110 ∷ 0 ∷ 65 ∷ 0 ∷ 1 ∷ 0 ∷ 72 ∷ 0 ∷ 0 ∷ 0 ∷ 19 ∷ 0 ∷ 6 ∷ 253 ∷ 0 ∷ 72 ∷ 7 ∷ 0 ∷ 46 ∷ 7 ∷ 0 ∷ 2 ∷ 10 ∷ 10 ∷ 7 ∷ 71 ∷ 7 ∷ 0 ∷ 65 ∷ 8 ∷ 0 ∷ 0 ∷ []
 
-abbrev pub texts : Setting
-texts = setting_of (job_of (codes "Texts") (record { name = codes "Texts"; bytes = texts_1 } ∷ []) 1000)
+abbrev pub texts : World
+texts = world_of (job_of (codes "Texts") (record { name = codes "Texts"; bytes = texts_1 } ∷ []) 1000)
 
 abbrev pub TextsPrint : Type 0
 TextsPrint = Prints texts (codes "abc-72199023255552true\nc\nmore\nno thread\n")

@@ -4,8 +4,8 @@ use Rattle.ti_ids.specs.declared.actor.Actor.{Actor}
 use Rattle.ti_ids.specs.declared.actor.Actor.TheVariants.{Vm}
 use Rattle.ti_ids.specs.declared.actor.End.TheVariants.{Dead, StepLimit}
 use Rattle.machine_state.specs.Jobs.{Job}
-use Rattle.machine_steps.specs.Settings.{Setting}
-use Rattle.machine_rows.specs.Rows.{job_of, setting_of, thread, IsRow, add_add}
+use Rattle.machine_steps.specs.World.{World}
+use Rattle.machine_rows.specs.Rows.{job_of, world_of, thread, IsRow, add_add}
 
 -- a job with another limit of steps
 abbrev pub with_steps : ℕ → Job → Job
@@ -27,8 +27,8 @@ isub_add =
     0 ∷ 18 ∷ 0 ∷ 33 ∷ 0 ∷ 2 ∷ 0 ∷ 4 ∷ 0 ∷ 0 ∷ 0 ∷ 0 ∷ 0 ∷ 1 ∷ 0 ∷ 9 ∷ 0 ∷ 5 ∷ 0 ∷ 6 ∷ 0 ∷ 1 ∷ 0 ∷ 7 ∷ 0 ∷ 0 ∷ 0 ∷ 22 ∷ 0 ∷ 3 ∷ 0 ∷ 1 ∷
     0 ∷ 0 ∷ 0 ∷ 10 ∷ 178 ∷ 0 ∷ 13 ∷ 5 ∷ 6 ∷ 100 ∷ 182 ∷ 0 ∷ 19 ∷ 177 ∷ 0 ∷ 0 ∷ 0 ∷ 0 ∷ 0 ∷ 0 ∷ []
 
-abbrev pub isub : Setting
-isub = setting_of (job_of (codes "Add") (record { name = codes "Add"; bytes = isub_add } ∷ []) 1000)
+abbrev pub isub : World
+isub = world_of (job_of (codes "Add") (record { name = codes "Add"; bytes = isub_add } ∷ []) 1000)
 
 abbrev pub isub_schedule : List Actor
 isub_schedule = replicate 2 Vm ++ replicate 13 (thread 1) ++ replicate 2 Vm
@@ -41,8 +41,8 @@ AddIsubPrintsMinusOne = IsRow isub isub_schedule Dead isub_text
 
 -- ---- step limit
 
-abbrev pub limit : Setting
-limit = setting_of (with_steps 16 add_job)
+abbrev pub limit : World
+limit = world_of (with_steps 16 add_job)
 
 abbrev pub limit_schedule : List Actor
 limit_schedule = replicate 2 Vm ++ replicate 13 (thread 1) ++ replicate 1 Vm
@@ -55,8 +55,8 @@ StepLimitMet = IsRow limit limit_schedule StepLimit limit_text
 
 -- ---- step limit not met
 
-abbrev pub exact : Setting
-exact = setting_of (with_steps 17 add_job)
+abbrev pub exact : World
+exact = world_of (with_steps 17 add_job)
 
 abbrev pub exact_schedule : List Actor
 exact_schedule = replicate 2 Vm ++ replicate 13 (thread 1) ++ replicate 2 Vm
@@ -80,8 +80,8 @@ verify_add =
     0 ∷ 18 ∷ 0 ∷ 33 ∷ 0 ∷ 2 ∷ 0 ∷ 4 ∷ 0 ∷ 0 ∷ 0 ∷ 0 ∷ 0 ∷ 1 ∷ 0 ∷ 9 ∷ 0 ∷ 5 ∷ 0 ∷ 6 ∷ 0 ∷ 1 ∷ 0 ∷ 7 ∷ 0 ∷ 0 ∷ 0 ∷ 22 ∷ 0 ∷ 2 ∷ 0 ∷ 1 ∷
     0 ∷ 0 ∷ 0 ∷ 10 ∷ 178 ∷ 0 ∷ 13 ∷ 5 ∷ 6 ∷ 96 ∷ 182 ∷ 0 ∷ 19 ∷ 177 ∷ 0 ∷ 0 ∷ 0 ∷ 0 ∷ 0 ∷ 0 ∷ []
 
-abbrev pub verify : Setting
-verify = setting_of (job_of (codes "Add") (record { name = codes "Add"; bytes = verify_add } ∷ []) 1000)
+abbrev pub verify : World
+verify = world_of (job_of (codes "Add") (record { name = codes "Add"; bytes = verify_add } ∷ []) 1000)
 
 abbrev pub verify_schedule : List Actor
 verify_schedule = replicate 2 Vm ++ replicate 4 (thread 1) ++ replicate 2 Vm

@@ -1,9 +1,11 @@
 -- Calls that are refused for a fault of an agent file, whatever reads these files.
 use Rattle.std.specs.Prelude.{◌≡◌, ℕ, List, [], ◌∷◌, ◌++◌, Some, codes, Result, Err}
 use Rattle.machine_state.specs.Jobs.{Agent}
-use Rattle.machine_steps.specs.Options.{Word}
-use Rattle.machine_steps.specs.Refusals.{AgentFault, Syntax, Missing, Unknown, Kind, TooMany}
-use Rattle.machine_steps.specs.Results.{Files, result_of}
+use Rattle.job_words.specs.Options.{Word}
+use Rattle.job_words.specs.declared.agent_fault.AgentFault.{AgentFault}
+use Rattle.job_words.specs.declared.agent_fault.AgentFault.TheVariants.{Syntax, Missing, Unknown, Kind, TooMany}
+use Rattle.job_words.specs.Fetches.{Files}
+use Rattle.machine_steps.specs.Results.{result_of}
 use Rattle.machine_rows.specs.RefusedRows.{line_of, stored, file, run_add, class, each, whole}
 
 -- an agent file, and two calls with it: without a donor, and with two

@@ -1,10 +1,13 @@
 -- Calls of the program that are refused before anything is run: words, files, and the line that tells of the refusal.
 use Rattle.std.specs.Prelude.{◌≡◌, ◌<◌, ℕ, List, [], ◌∷◌, ◌++◌, length, flat_map, take, drop, replicate, find, bytes_eq, ◌==◌, if◌then◌else◌, Option, Some, None, option_map, codes, Result, Ok, Err}
 use Rattle.machine_state.specs.Jobs.{Agent}
-use Rattle.machine_steps.specs.Options.{Word}
-use Rattle.machine_steps.specs.Refusals.{AgentFault, refusal_text}
-use Rattle.machine_steps.specs.Results.{Answer, Failed, Files, steady, Task, Run, Replay, Make, result_of, replay_refusal}
-use Rattle.machine_rows.specs.Rows.{add_add, setting_of}
+use Rattle.job_words.specs.Options.{Word}
+use Rattle.job_words.specs.declared.agent_fault.AgentFault.{AgentFault}
+use Rattle.job_words.specs.Refusals.{refusal_text}
+use Rattle.job_words.specs.Fetches.{Admitted, Failed, Files, steady}
+use Rattle.machine_steps.specs.Results.{Task, RunTask, ReplayTask, MakeTask, result_of}
+use Rattle.machine_steps.specs.Written.{replay_refusal}
+use Rattle.machine_rows.specs.Rows.{add_add, world_of}
 
 -- a file of a name
 pub record Stored : Type 0 where
@@ -27,7 +30,7 @@ abbrev pub failing_at : ℕ → Files → Files
 failing_at failed files place name = if place == failed then Failed else files place name
 
 -- the line of a refusal
-abbrev pub line_of : {A : Type 0} → Answer A → Option (List ℕ)
+abbrev pub line_of : {A : Type 0} → Admitted A → Option (List ℕ)
 line_of (Ok x) = None
 line_of (Err refusal) = Some (refusal_text refusal)
 
@@ -140,10 +143,10 @@ pub record ClassesRefused : Type 0 where
 -- ---- schedules
 
 -- the line of a replay that can't be performed: that of its first refusal, before the run or with it
-abbrev pub replay_line : Answer Task → Option (List ℕ)
-replay_line (Ok (Replay job schedule)) = option_map refusal_text (replay_refusal (setting_of job) schedule)
-replay_line (Ok (Run job workers)) = None
-replay_line (Ok (Make number size)) = None
+abbrev pub replay_line : Admitted Task → Option (List ℕ)
+replay_line (Ok (ReplayTask job schedule)) = option_map refusal_text (replay_refusal (world_of job) schedule)
+replay_line (Ok (RunTask job workers)) = None
+replay_line (Ok (MakeTask number size)) = None
 replay_line (Err refusal) = Some (refusal_text refusal)
 
 abbrev pub scheduled : List ℕ → Files

@@ -1,7 +1,7 @@
 -- Words of calls that are refused.
 use Rattle.std.specs.Prelude.{◌≡◌, List, [], ◌∷◌, ◌++◌, true, codes}
 use Rattle.std.specs.List.{list_all}
-use Rattle.machine_steps.specs.Options.{Word}
+use Rattle.job_words.specs.Options.{Word}
 use Rattle.machine_rows.specs.WordRows.{is_refused, job, run, replay, make, number, size, with_main}
 
 -- ---- shapes

@@ -7,9 +7,9 @@ use Rattle.machine_steps.specs.Replay.{state}
 use Rattle.machine_steps.specs.Picks.{picked}
 use Rattle.machine_steps.specs.Reports.{report}
 use Rattle.ti_ids.specs.declared.actor.Actor.{Actor}
-use Rattle.ti_ids.specs.declared.actor.Actor.TheVariants.{Vm, Thread}
+use Rattle.ti_ids.specs.declared.actor.Actor.TheVariants.{Vm, Thread, Agent}
 use Rattle.machine_state.specs.Jobs.{File, Job}
-use Rattle.machine_steps.specs.Settings.{Setting}
+use Rattle.machine_steps.specs.World.{World}
 
 -- a job with these files and the limits that stand where none are given, but for the slice
 abbrev pub job_of : List ℕ → List File → ℕ → Job
@@ -22,17 +22,20 @@ job_of main files slice = record {
 }
 
 -- without agents
-abbrev pub setting_of : Job → Setting
-setting_of job = record { job = job; turns = λ env set class bytes. None; answers = λ s env call actor. [] }
+abbrev pub world_of : Job → World
+world_of job = record { job = job; turns = λ env set class bytes. None; answers = λ s env call actor. [] }
 
 abbrev pub thread : ℕ → Actor
 thread n = Thread (record { 0 = n })
 
+abbrev pub agent : ℕ → Actor
+agent n = Agent (record { 0 = n })
+
 -- One worker picks this schedule, it ends so, and this text is the report of it.
-pub record IsRow (setting : Setting) (schedule : List Actor) (e : End) (text : List ℕ) : Type 0 where
-  pub picks : picked setting ≡ schedule
-  pub ends : end setting (state setting schedule) ≡ Some e
-  pub writes : report setting schedule (Some e) ≡ text
+pub record IsRow (w : World) (schedule : List Actor) (e : End) (text : List ℕ) : Type 0 where
+  pub picks : picked w.job.limits.slice w ≡ schedule
+  pub ends : end w (state w schedule) ≡ Some e
+  pub writes : report w schedule (Some e) ≡ text
 
 -- ---- add prints five
 
@@ -47,8 +50,8 @@ add_add =
     0 ∷ 18 ∷ 0 ∷ 33 ∷ 0 ∷ 2 ∷ 0 ∷ 4 ∷ 0 ∷ 0 ∷ 0 ∷ 0 ∷ 0 ∷ 1 ∷ 0 ∷ 9 ∷ 0 ∷ 5 ∷ 0 ∷ 6 ∷ 0 ∷ 1 ∷ 0 ∷ 7 ∷ 0 ∷ 0 ∷ 0 ∷ 22 ∷ 0 ∷ 3 ∷ 0 ∷ 1 ∷
     0 ∷ 0 ∷ 0 ∷ 10 ∷ 178 ∷ 0 ∷ 13 ∷ 5 ∷ 6 ∷ 96 ∷ 182 ∷ 0 ∷ 19 ∷ 177 ∷ 0 ∷ 0 ∷ 0 ∷ 0 ∷ 0 ∷ 0 ∷ []
 
-abbrev pub add : Setting
-add = setting_of (job_of (codes "Add") (record { name = codes "Add"; bytes = add_add } ∷ []) 1000)
+abbrev pub add : World
+add = world_of (job_of (codes "Add") (record { name = codes "Add"; bytes = add_add } ∷ []) 1000)
 
 abbrev pub add_schedule : List Actor
 add_schedule = replicate 2 Vm ++ replicate 13 (thread 1) ++ replicate 2 Vm
@@ -73,8 +76,8 @@ edges_five =
     0 ∷ 43 ∷ 0 ∷ 3 ∷ 0 ∷ 1 ∷ 0 ∷ 0 ∷ 0 ∷ 31 ∷ 178 ∷ 0 ∷ 13 ∷ 18 ∷ 14 ∷ 2 ∷ 108 ∷ 182 ∷ 0 ∷ 20 ∷ 178 ∷ 0 ∷ 13 ∷ 18 ∷ 14 ∷ 2 ∷ 112 ∷ 182 ∷ 0 ∷ 20 ∷ 178 ∷ 0 ∷
     13 ∷ 4 ∷ 16 ∷ 33 ∷ 120 ∷ 182 ∷ 0 ∷ 20 ∷ 177 ∷ 0 ∷ 0 ∷ 0 ∷ 0 ∷ 0 ∷ 0 ∷ []
 
-abbrev pub edges : Setting
-edges = setting_of (job_of (codes "Five") (record { name = codes "Five"; bytes = edges_five } ∷ []) 1000)
+abbrev pub edges : World
+edges = world_of (job_of (codes "Five") (record { name = codes "Five"; bytes = edges_five } ∷ []) 1000)
 
 abbrev pub edges_schedule : List Actor
 edges_schedule = replicate 2 Vm ++ replicate 23 (thread 1) ++ replicate 2 Vm
@@ -105,8 +108,8 @@ superclass_b =
     33 ∷ 0 ∷ 2 ∷ 0 ∷ 4 ∷ 0 ∷ 0 ∷ 0 ∷ 0 ∷ 0 ∷ 1 ∷ 0 ∷ 9 ∷ 0 ∷ 5 ∷ 0 ∷ 6 ∷ 0 ∷ 1 ∷ 0 ∷ 7 ∷ 0 ∷ 0 ∷ 0 ∷ 13 ∷ 0 ∷ 0 ∷ 0 ∷ 1 ∷ 0 ∷ 0 ∷ 0 ∷
     1 ∷ 177 ∷ 0 ∷ 0 ∷ 0 ∷ 0 ∷ 0 ∷ 0 ∷ []
 
-abbrev pub superclass : Setting
-superclass = setting_of (job_of (codes "B") (record { name = codes "A"; bytes = superclass_a } ∷ record { name = codes "B"; bytes = superclass_b } ∷ []) 1000)
+abbrev pub superclass : World
+superclass = world_of (job_of (codes "B") (record { name = codes "A"; bytes = superclass_a } ∷ record { name = codes "B"; bytes = superclass_b } ∷ []) 1000)
 
 abbrev pub superclass_schedule : List Actor
 superclass_schedule = replicate 2 Vm ++ replicate 17 (thread 1) ++ replicate 2 Vm
@@ -126,8 +129,8 @@ uncaught_z =
     114 ∷ 105 ∷ 110 ∷ 103 ∷ 59 ∷ 41 ∷ 86 ∷ 1 ∷ 0 ∷ 4 ∷ 67 ∷ 111 ∷ 100 ∷ 101 ∷ 0 ∷ 33 ∷ 0 ∷ 2 ∷ 0 ∷ 4 ∷ 0 ∷ 0 ∷ 0 ∷ 0 ∷ 0 ∷ 1 ∷ 0 ∷ 9 ∷ 0 ∷ 5 ∷ 0 ∷ 6 ∷
     0 ∷ 1 ∷ 0 ∷ 7 ∷ 0 ∷ 0 ∷ 0 ∷ 17 ∷ 0 ∷ 2 ∷ 0 ∷ 1 ∷ 0 ∷ 0 ∷ 0 ∷ 5 ∷ 4 ∷ 3 ∷ 108 ∷ 87 ∷ 177 ∷ 0 ∷ 0 ∷ 0 ∷ 0 ∷ 0 ∷ 0 ∷ []
 
-abbrev pub uncaught : Setting
-uncaught = setting_of (job_of (codes "Z") (record { name = codes "Z"; bytes = uncaught_z } ∷ []) 1000)
+abbrev pub uncaught : World
+uncaught = world_of (job_of (codes "Z") (record { name = codes "Z"; bytes = uncaught_z } ∷ []) 1000)
 
 abbrev pub uncaught_schedule : List Actor
 uncaught_schedule = replicate 2 Vm ++ replicate 11 (thread 1) ++ replicate 2 Vm
@@ -154,8 +157,8 @@ deadlock_d =
     16 ∷ 0 ∷ 0 ∷ 0 ∷ 1 ∷ 0 ∷ 0 ∷ 0 ∷ 4 ∷ 184 ∷ 0 ∷ 22 ∷ 177 ∷ 0 ∷ 0 ∷ 0 ∷ 0 ∷ 0 ∷ 41 ∷ 0 ∷ 20 ∷ 0 ∷ 6 ∷ 0 ∷ 1 ∷ 0 ∷ 7 ∷ 0 ∷ 0 ∷ 0 ∷ 13 ∷ 0 ∷
     0 ∷ 0 ∷ 0 ∷ 0 ∷ 0 ∷ 0 ∷ 1 ∷ 177 ∷ 0 ∷ 0 ∷ 0 ∷ 0 ∷ 0 ∷ 0 ∷ []
 
-abbrev pub deadlock : Setting
-deadlock = setting_of (job_of (codes "D") (record { name = codes "D"; bytes = deadlock_d } ∷ []) 16)
+abbrev pub deadlock : World
+deadlock = world_of (job_of (codes "D") (record { name = codes "D"; bytes = deadlock_d } ∷ []) 16)
 
 abbrev pub deadlock_schedule : List Actor
 deadlock_schedule = replicate 2 Vm ++ replicate 16 (thread 1) ++ replicate 3 (thread 2) ++ replicate 2 (thread 1)

@@ -2,8 +2,8 @@
 use Rattle.std.specs.Prelude.{◌≡◌, ℕ, List, [], ◌∷◌, ◌++◌, Some, is_none, Bool, true, not, ◌&&◌, codes}
 use Rattle.std.specs.List.{list_all}
 use Rattle.ti_ids.specs.declared.limits.Limits.{Limits}
-use Rattle.machine_steps.specs.Options.{Word}
-use Rattle.machine_steps.specs.Words.{Given, Request, Runs, Replays, Makes, request_of}
+use Rattle.job_words.specs.Options.{Word}
+use Rattle.job_words.specs.Words.{Given, Request, RunRequest, ReplayRequest, MakeRequest, request_of}
 
 abbrev pub is_refused : List Word → Bool
 is_refused words = is_none (request_of words)
@@ -108,16 +108,16 @@ many_files_given = record {
 -- ---- what is asked
 
 pub record RequestsAsked : Type 0 where
-  pub plain : Asks run (Runs no_limits_given 1)
+  pub plain : Asks run (RunRequest no_limits_given 1)
   pub least :
-      Asks (run ++ codes "--workers=1" ∷ codes "--slice=1" ∷ codes "--steps=1" ∷ codes "--lines=1" ∷ codes "--output=1" ∷ codes "--heap=64" ∷ []) (Runs (with_limits (record { steps = 1; lines = 1; output = 1; heap = 64; slice = 1 })) 1)
+      Asks (run ++ codes "--workers=1" ∷ codes "--slice=1" ∷ codes "--steps=1" ∷ codes "--lines=1" ∷ codes "--output=1" ∷ codes "--heap=64" ∷ []) (RunRequest (with_limits (record { steps = 1; lines = 1; output = 1; heap = 64; slice = 1 })) 1)
   pub greatest :
-      Asks (codes "run" ∷ codes "--heap=16000000" ∷ codes "--output=16777216" ∷ codes "--lines=100000" ∷ codes "--steps=4000000" ∷ codes "--slice=1000000" ∷ codes "--workers=64" ∷ job) (Runs (with_limits (record { steps = 4000000; lines = 100000; output = 16777216; heap = 16000000; slice = 1000000 })) 64)
-  pub files : Asks many_files (Runs many_files_given 1)
-  pub name : Asks (with_main two_letters) (Runs (with_main_in_units two_letters_in_units) 1)
-  pub replayed : Asks replay (Replays no_limits_given (codes "s"))
-  pub replayed_within : Asks (replay ++ codes "--steps" ∷ codes "7" ∷ codes "--heap" ∷ codes "90" ∷ []) (Replays (with_limits (record { steps = 7; lines = 10000; output = 1048576; heap = 90; slice = 1000 })) (codes "s"))
-  pub made : Asks make (Makes 0 1)
-  pub made_greatest : Asks (codes "make" ∷ codes "--size" ∷ codes "10000" ∷ codes "--number" ∷ codes "999999999" ∷ []) (Makes 999999999 10000)
+      Asks (codes "run" ∷ codes "--heap=16000000" ∷ codes "--output=16777216" ∷ codes "--lines=100000" ∷ codes "--steps=4000000" ∷ codes "--slice=1000000" ∷ codes "--workers=64" ∷ job) (RunRequest (with_limits (record { steps = 4000000; lines = 100000; output = 16777216; heap = 16000000; slice = 1000000 })) 64)
+  pub files : Asks many_files (RunRequest many_files_given 1)
+  pub name : Asks (with_main two_letters) (RunRequest (with_main_in_units two_letters_in_units) 1)
+  pub replayed : Asks replay (ReplayRequest no_limits_given (codes "s"))
+  pub replayed_within : Asks (replay ++ codes "--steps" ∷ codes "7" ∷ codes "--heap" ∷ codes "90" ∷ []) (ReplayRequest (with_limits (record { steps = 7; lines = 10000; output = 1048576; heap = 90; slice = 1000 })) (codes "s"))
+  pub made : Asks make (MakeRequest 0 1)
+  pub made_greatest : Asks (codes "make" ∷ codes "--size" ∷ codes "10000" ∷ codes "--number" ∷ codes "999999999" ∷ []) (MakeRequest 999999999 10000)
   -- each option is accepted from its least number to its greatest, and no further
   pub ranges_kept : list_all is_kept ranges ≡ true

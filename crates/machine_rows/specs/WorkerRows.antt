@@ -1,8 +1,8 @@
 -- Which calls ask for more than one worker.
 use Rattle.std.specs.Prelude.{◌≡◌, List, [], ◌∷◌, ◌++◌, true, not, codes}
 use Rattle.std.specs.List.{list_all}
-use Rattle.machine_steps.specs.Options.{Word}
-use Rattle.machine_steps.specs.Words.{wants_many}
+use Rattle.job_words.specs.Options.{Word}
+use Rattle.job_words.specs.Words.{wants_many}
 use Rattle.machine_rows.specs.WordRows.{job, run}
 
 -- of these some aren't accepted, which is another question

@@ -1,6 +1,6 @@
 -- What a step does, one change at a time: each changes one part of the core, or adds one record to the trace. A step of the machine is
 -- the list of its acts.
-use Rattle.std.specs.Prelude.{ℕ, zero, suc, ◌+◌, Bool, true, false, ◌&&◌, ◌==◌, List, [], ◌∷◌, ◌++◌, length, map, drop, fold, flat_map, filter, Option, Some, None, bytes_eq, if◌then◌else◌}
+use Rattle.std.specs.Prelude.{ℕ, zero, suc, ◌+◌, Bool, true, false, not, ◌&&◌, ◌||◌, ◌==◌, nat_le, is_some, is_none, List, [], ◌∷◌, ◌++◌, length, map, drop, fold, flat_map, filter, Option, Some, None, bytes_eq, if◌then◌else◌}
 use Rattle.std.specs.List.{list_any}
 use Rattle.std.specs.Option.{option_map_or}
 use Rattle.ti_ids.specs.declared.number.ThreadNo.{ThreadNo}
@@ -21,12 +21,15 @@ use Rattle.java_heap.specs.Changes.{with_field, with_elem, with_side, with_more}
 use Rattle.monitor_table.specs.Monitors.{entered, left, gone_to_wait, with_one_notified, with_all_notified, taken_back}
 use Rattle.thread_frames.specs.ThreadStack.{pushed, popped}
 use Rattle.thread_frames.specs.declared.frame.StackEntry.TheVariants.{Java, Init}
-use Rattle.link_versions.specs.declared.class.InitState.{InitState}
+use Rattle.ti_ids.specs.declared.state.InitState.{InitState}
 use Rattle.machine_state.specs.Jobs as jobs
 use Rattle.machine_state.specs.Jobs.{Job, Call, SetTag, GetTag, AgentKind, Native, Callback, agent_at}
-use Rattle.machine_state.specs.Core.{Core, CoreClass, MethodFrame, StackFrame, Activity, Free, Thread, Pending, is_of_classes, with_thread, with_frames, with_class, with_monitor, with_queue, same_field}
+use Rattle.ti_ids.specs.declared.state.Activity.{Activity}
+use Rattle.ti_ids.specs.declared.state.Activity.TheVariants.{Free}
+use Rattle.machine_state.specs.Core.{Core, CoreClass, MethodFrame, StackFrame, Thread, Pending, is_of_classes, failure_of, most_threads, with_thread, with_frames, with_class, with_monitor, with_queue, same_field}
 use Rattle.machine_state.specs.Trace.{Event, Record, Raised, Turned, Trace}
 use Rattle.machine_state.specs.Codes.{same_kind}
+use Rattle.machine_state.specs.Linked.{array_type}
 use Rattle.machine_state.specs.Events as events
 use Rattle.machine_state.specs.Chains.{acting}
 use Rattle.machine_state.specs.Logs.{is_addressed}
@@ -46,7 +49,6 @@ pub data Change : Type 0 where
   PutsElement : ObjNo → ℕ → Value → Change
   PutsSide : ObjNo → Option ObjNo → Change
   PutsBehind : ObjNo → List ℕ → Change
-  PutsStatic : FieldNo → Value → Change
   -- the monitor of an object (section 2.11.10)
   Enters : ObjNo → ThreadNo → Change
   Leaves : ObjNo → Change
@@ -61,44 +63,59 @@ pub data Change : Type 0 where
   Pops : ThreadNo → Change
   Pushes : ThreadNo → MethodFrame → Change
   PushesInit : ThreadNo → ClassNo → Change
-  -- a thread goes on, and a thread of a Thread object is made
+  -- a thread goes on, and a thread of a Thread object is made, if there aren't as many as may be
   SetsState : ThreadNo → ThreadState → Change
   SetsActivity : ThreadNo → Activity → Change
   MakesThread : ObjNo → Change
-  -- a class is added, if none has its name, goes on, and its `<clinit>` was entered; a load or a type check failed with this class of error
+  PutsStatic : FieldNo → Value → Change
+  -- a class is added, if none has its name and no load of it has failed, goes on, and its `<clinit>` was entered; a load or a type check
+  -- failed with this class of error
   AddsClass : Name → InitState → Change
   SetsClass : ClassNo → InitState → Change
   EntersInitializer : ClassNo → Change
   Fails : Name → Name → Change
   SetsPhase : Phase → Change
-  Dies : Change
+  -- VMDeath was raised
+  MarksDeath : Change
   -- the first pending call of an actor is taken, and the next call of a script
   TakesCall : Actor → Change
   TakesScript : EnvNo → Change
 
 -- a static field set to a value, in the place of what it was set to before
 abbrev pub statics_with : FieldNo → Value → Core → Core
-statics_with field v core = record core { statics = record { field = field; value = v } ∷ filter (λ s. if same_field s.field field then false else true) core.statics }
+statics_with field v core =
+    record core { statics = record { field = field; value = v } ∷ filter (λ s. not (same_field s.field field)) core.statics }
 
 -- a thread that was just made
 abbrev pub new_thread : ObjNo → Thread
 new_thread object = record { object = object; state = Unbegun; activity = Free; frames = [] }
 
--- A frame goes on: it gets the pc, the local variables, the operand stack and what was announced of this one. Its method and what it is
--- pinned to stay.
+-- A frame goes on: its class, its method and what it is pinned to stay, and all else is as in this one.
 abbrev pub going_on : MethodFrame → List StackFrame → List StackFrame
 going_on f [] = []
-going_on f (Java g ∷ below) = Java (record g { pc = f.pc; locals = f.locals; stack = f.stack; announced = f.announced }) ∷ below
+going_on f (Java g ∷ below) = Java (record f { class = g.class; method = g.method; pin = g.pin }) ∷ below
 going_on f (Init class ∷ below) = Init class ∷ below
 
 -- a frame that is pushed with this birth
 abbrev pub born_at : ℕ → MethodFrame → MethodFrame
 born_at birth frame = record frame { pin = record { birth = birth; monitor = frame.pin.monitor } }
 
--- the classes with one more, where none has its name
-abbrev pub with_added : Name → InitState → List CoreClass → List CoreClass
-with_added name state classes =
-    if list_any (bytes_eq name) (map (λ c. c.name) classes) then classes else record { name = name; state = state; entered = false } ∷ classes
+-- the threads with one more, where there are fewer than are made
+abbrev pub with_made : ObjNo → List Thread → List Thread
+with_made object threads = if nat_le most_threads (length threads) then threads else threads ++ new_thread object ∷ []
+
+-- whether a load of a class of this name has failed; an array class has no load
+abbrev pub has_failed_load : Core → Name → Bool
+has_failed_load core name = is_some (failure_of core name) && is_none (array_type name)
+
+-- whether no class of this name may be added: one is there, or its load has failed
+abbrev pub is_barred : Core → Name → Bool
+is_barred core name = list_any (bytes_eq name) (map (λ c. c.name) core.classes) || has_failed_load core name
+
+-- the classes with one more, where it isn't barred
+abbrev pub with_added : Name → InitState → Core → List CoreClass
+with_added name state core =
+    if is_barred core name then core.classes else record { name = name; state = state; entered = false } ∷ core.classes
 
 -- the frames with one more, where its classes are there
 abbrev pub with_born : ℕ → List CoreClass → MethodFrame → List StackFrame → List StackFrame
@@ -118,7 +135,6 @@ changed birth (PutsField object place v) core = record core { heap = with_field 
 changed birth (PutsElement object place v) core = record core { heap = with_elem core.heap object place v }
 changed birth (PutsSide object side) core = record core { heap = with_side core.heap object side }
 changed birth (PutsBehind object units) core = record core { heap = with_more core.heap object units }
-changed birth (PutsStatic field v) core = statics_with field v core
 changed birth (Enters object t) core = with_monitor (entered t) object core
 changed birth (Leaves object) core = with_monitor left object core
 changed birth (GoesToWait object t) core = with_monitor (gone_to_wait t) object core
@@ -132,13 +148,14 @@ changed birth (Pushes t frame) core = with_frames (with_born birth core.classes 
 changed birth (PushesInit t class) core = with_frames (pushed (Init class)) t core
 changed birth (SetsState t state) core = with_thread (λ thread. record thread { state = state }) t core
 changed birth (SetsActivity t activity) core = with_thread (λ thread. record thread { activity = activity }) t core
-changed birth (MakesThread object) core = record core { threads = core.threads ++ new_thread object ∷ [] }
-changed birth (AddsClass name state) core = record core { classes = with_added name state core.classes }
+changed birth (MakesThread object) core = record core { threads = with_made object core.threads }
+changed birth (PutsStatic field v) core = statics_with field v core
+changed birth (AddsClass name state) core = record core { classes = with_added name state core }
 changed birth (SetsClass class state) core = with_class (λ c. record c { state = state }) class core
 changed birth (EntersInitializer class) core = with_class (λ c. record c { entered = true }) class core
 changed birth (Fails class error) core = record core { failures = core.failures ++ record { class = class; error = error } ∷ [] }
 changed birth (SetsPhase phase) core = record core { phase = phase }
-changed birth Dies core = record core { died = true }
+changed birth MarksDeath core = record core { death_raised = true }
 changed birth (TakesCall actor) core = with_queue (drop 1) actor core
 changed birth (TakesScript env) core = record core { scripts = counted_up core.scripts env.0 }
 
@@ -184,10 +201,12 @@ event_calls_of trace event told env agent = if is_addressed trace env event then
 
 abbrev pub event_calls : Trace → Event → Told → ℕ → List jobs.Agent → List Pending
 event_calls trace event told n [] = []
-event_calls trace event told n (agent ∷ agents) = event_calls_of trace event told (record { 0 = n }) agent ++ event_calls trace event told (n + 1) agents
+event_calls trace event told n (agent ∷ agents) =
+    event_calls_of trace event told (record { 0 = n }) agent ++ event_calls trace event told (n + 1) agents
 
 abbrev pub told_by : Event → Told
-told_by event = record { kind = events.kind_of event; class = events.class_of event; thread = events.thread_of event; object = events.object_of event }
+told_by event =
+    record { kind = events.kind_of event; class = events.class_of event; thread = events.thread_of event; object = events.object_of event }
 
 -- a hook's turn is an event of its environment; the turn of a transformer of `java.lang.instrument` has no callbacks
 abbrev pub turn_calls_in : EnvNo → Told → jobs.Agent → AgentKind → List Pending
@@ -234,8 +253,8 @@ birth_after trace acts = length trace + length (filter is_note acts)
 abbrev pub stepped : Job → Actor → State → List Act → State
 stepped job actor s acts = let after = fold (acted job actor (birth_after s.trace acts)) s acts in record after { steps = s.steps + 1 }
 
--- the core after these acts of a step that goes on
-abbrev pub core_after : Core → List Act → Core
-core_after core [] = core
-core_after core (Changes change ∷ acts) = core_after (changed 0 change core) acts
-core_after core (Notes what ∷ acts) = core_after core acts
+-- the core after these acts of a step that goes on, where this is the birth of frames that the step pushes
+abbrev pub core_after : ℕ → Core → List Act → Core
+core_after birth core [] = core
+core_after birth core (Changes change ∷ acts) = core_after birth (changed birth change core) acts
+core_after birth core (Notes what ∷ acts) = core_after birth core acts

@@ -19,7 +19,8 @@ use Rattle.java_heap.specs.Heaps.{HeapValue}
 use Rattle.monitor_table.specs.Monitors.{Monitor, free}
 use Rattle.thread_frames.specs.declared.frame.Frame.{Frame}
 use Rattle.thread_frames.specs.declared.frame.StackEntry.{StackEntry}
-use Rattle.link_versions.specs.declared.class.InitState.{InitState}
+use Rattle.ti_ids.specs.declared.state.Activity.{Activity}
+use Rattle.ti_ids.specs.declared.state.InitState.{InitState}
 use Rattle.link_versions.specs.Classes.{numbered, with_numbered}
 use Rattle.machine_state.specs.Jobs.{Call, counted}
 
@@ -40,18 +41,6 @@ abbrev pub StackFrame : Type 0
 StackFrame = StackEntry Pin
 
 -- ---- threads
-
--- what keeps a thread from going on with its top frame
-pub data Activity : Type 0 where
-  Free : Activity
-  -- it throws this exception (section 2.10)
-  Throwing : ObjNo → Activity
-  -- it is in the wait set of this object (the language, 17.2)
-  Waiting : ObjNo → Activity
-  -- it waits for the end of this thread
-  Joining : ThreadNo → Activity
-  -- it wants to enter the monitor of this object, which another thread owned
-  Wanting : ObjNo → Activity
 
 pub record Thread : Type 0 where
   -- its Thread object
@@ -100,8 +89,8 @@ pub record Queue : Type 0 where
 
 pub record Core : Type 0 where
   pub phase : Phase
-  -- whether VMDeath was raised
-  pub died : Bool
+  -- whether VMDeath was raised: from then on the machine only performs what waits for it, and ends
+  pub death_raised : Bool
   -- the newest first, so that a class's number is how many there are from it to the end
   pub classes : List CoreClass
   pub failures : List Failure
@@ -200,3 +189,7 @@ is_of_object object thread = thread.object.0 == object.0
 
 abbrev pub was_started : Core → ObjNo → Bool
 was_started core object = list_any (is_of_object object) core.threads
+
+-- how many threads are made, those that have ended among them
+abbrev pub most_threads : ℕ
+most_threads = 64

@@ -1,80 +1,75 @@
 -- The state of an agent's environment, as the trace has it: whether it is disposed, its capabilities, its masks and its rule set
--- (JVM TI, "DisposeEnvironment", "Capability" and "SetEventNotificationMode").
-use Rattle.std.specs.Prelude.{Bool, true, false, ◌&&◌, ◌||◌, ◌==◌, List, [], fold, Option, Some, None, if◌then◌else◌}
+-- (JVM TI, "DisposeEnvironment", "Capability" and "SetEventNotificationMode"). Of each it is said here what a record changes; what the
+-- changes come to is said where the part is defined.
+use Rattle.std.specs.Prelude.{Bool, false, ◌==◌, List, [], Option, Some, None, filter_map, if◌then◌else◌}
 use Rattle.std.specs.List.{list_any}
-use Rattle.std.specs.Option.{option_map_or}
-use Rattle.ti_ids.specs.declared.number.ThreadNo.{ThreadNo}
 use Rattle.ti_ids.specs.declared.number.EnvNo.{EnvNo}
 use Rattle.ti_codes.specs.declared.capability.Capability.{Capability}
 use Rattle.ti_codes.specs.declared.event.EventKind.{EventKind}
 use Rattle.jv_names.specs.Names.{Name}
-use Rattle.machine_state.specs.Codes.{same_capability, same_kind, needed}
+use Rattle.change_list.specs.Changes.{last}
+use Rattle.capability_set.specs.Held.{held}
+use Rattle.event_mask.specs.declared.hook.HookClass.{HookClass}
+use Rattle.event_mask.specs.Settings as settings
+use Rattle.event_mask.specs.Settings.{Scope, Sets, Holds, Ends}
+use Rattle.event_mask.specs.Hooks as hooks
+use Rattle.machine_state.specs.Jobs.{Job}
 use Rattle.machine_state.specs.Trace.{Record, Trace, ModeSet, CapsChanged, RulesChosen, Disposed}
 
 abbrev pub same_environment : EnvNo → EnvNo → Bool
 same_environment a b = a.0 == b.0
 
--- what the records of a trace leave, one after the other
-abbrev pub after_all : {A : Type 0} → (A → Record → A) → A → Trace → A
-after_all after begin trace = fold (λ a e. after a e.what) begin trace
+-- what the records of a trace change of something, in their order
+abbrev pub changes_in : {C : Type 0} → (Record → Option C) → Trace → List C
+changes_in change trace = filter_map (λ e. change e.what) trace
 
 -- ---- disposal
 
-abbrev pub disposed_after : EnvNo → Bool → Record → Bool
-disposed_after env is (Disposed of) = is || same_environment of env
-disposed_after env is _ = is
+-- a record says that an environment is disposed
+abbrev pub disposes : EnvNo → Record → Bool
+disposes env (Disposed of) = same_environment of env
+disposes env _ = false
 
 abbrev pub is_disposed : Trace → EnvNo → Bool
-is_disposed trace env = after_all (disposed_after env) false trace
+is_disposed trace env = list_any (λ e. disposes env e.what) trace
 
--- ---- capabilities: an environment begins with none
+-- ---- capabilities
 
-abbrev pub capabilities_after : EnvNo → List Capability → Record → List Capability
-capabilities_after env held (CapsChanged of caps) = if same_environment of env then caps else held
-capabilities_after env held _ = held
+-- those with which a job lets an environment begin; that of an agent begins with none
+abbrev pub given_capabilities : Job → EnvNo → List Capability
+given_capabilities job env = []
 
-abbrev pub capabilities_of : Trace → EnvNo → List Capability
-capabilities_of trace env = after_all (capabilities_after env) [] trace
+abbrev pub capability_change : EnvNo → Record → Option (List Capability)
+capability_change env (CapsChanged of caps) = if same_environment of env then Some caps else None
+capability_change env _ = None
 
-abbrev pub has_capability : Capability → List Capability → Bool
-has_capability wanted held = list_any (same_capability wanted) held
-
--- what the event needs is among these
-abbrev pub suffices : List Capability → EventKind → Bool
-suffices held kind = option_map_or (λ wanted. has_capability wanted held) (needed kind) true
+abbrev pub capabilities_of : Job → Trace → EnvNo → List Capability
+capabilities_of job trace env = held (given_capabilities job env) (changes_in (capability_change env) trace)
 
 -- ---- masks
 
--- one setting of an event: that of a thread, or the one for all
-abbrev pub Scope : Type 0
-Scope = Option ThreadNo
-
-abbrev pub same_scope : Scope → Scope → Bool
-same_scope None None = true
-same_scope (Some a) (Some b) = a.0 == b.0
-same_scope None (Some b) = false
-same_scope (Some a) None = false
-
--- It is as it was set last, and off where the environment then lost a capability that the event needs, or was disposed.
-abbrev pub setting_after : EnvNo → EventKind → Scope → Bool → Record → Bool
-setting_after env kind scope is (ModeSet of what for on) = if same_environment of env && same_kind what kind && same_scope for scope then on else is
-setting_after env kind scope is (CapsChanged of caps) = if same_environment of env then is && suffices caps kind else is
-setting_after env kind scope is (Disposed of) = if same_environment of env then false else is
-setting_after env kind scope is _ = is
+abbrev pub mask_change : EnvNo → Record → Option settings.Change
+mask_change env (ModeSet of kind scope on) = if same_environment of env then Some (Sets kind scope on) else None
+mask_change env (CapsChanged of caps) = if same_environment of env then Some (Holds caps) else None
+mask_change env (Disposed of) = if same_environment of env then Some Ends else None
+mask_change env _ = None
 
 abbrev pub setting : Trace → EnvNo → EventKind → Scope → Bool
-setting trace env kind scope = after_all (setting_after env kind scope) false trace
+setting trace env kind scope = settings.setting kind scope (changes_in (mask_change env) trace)
 
--- An event of a thread is on where the setting for all or that of the thread is.
 abbrev pub mask : Trace → EnvNo → EventKind → Scope → Bool
-mask trace env kind None = setting trace env kind None
-mask trace env kind (Some t) = setting trace env kind None || setting trace env kind (Some t)
+mask trace env kind scope = settings.mask kind scope (changes_in (mask_change env) trace)
+
+-- whether the environment's hook is capable of retransformation, once it has turned ClassFileLoadHook on
+abbrev pub hook_class : Job → Trace → EnvNo → HookClass
+hook_class job trace env = hooks.hook_class (given_capabilities job env) (changes_in (mask_change env) trace)
 
 -- ---- the rule set in force
 
-abbrev pub rules_after : EnvNo → Option Name → Record → Option Name
-rules_after env chosen (RulesChosen of set) = if same_environment of env then Some set else chosen
-rules_after env chosen _ = chosen
+abbrev pub rules_change : EnvNo → Record → Option Name
+rules_change env (RulesChosen of set) = if same_environment of env then Some set else None
+rules_change env _ = None
 
+-- the one that was chosen last
 abbrev pub rules_of : Trace → EnvNo → Option Name
-rules_of trace env = after_all (rules_after env) None trace
+rules_of trace env = last (changes_in (rules_change env) trace)

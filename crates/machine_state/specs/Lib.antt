@@ -13,7 +13,8 @@ pub mod Logs
 pub mod Tags
 pub mod Places
 pub mod Acts
-pub mod Equivalence
+pub mod Shares
+pub mod Births
 pub mod Obsolete
 pub mod Statuses
 pub mod Laws

@@ -5,18 +5,24 @@ use Rattle.ti_ids.specs.declared.state.ThreadState.{ThreadState}
 use Rattle.ti_ids.specs.declared.state.ThreadState.TheVariants.{Ended}
 use Rattle.jv_names.specs.Names.{Name}
 use Rattle.monitor_table.specs.Monitors.{has_wait}
-use Rattle.link_versions.specs.declared.class.InitState.{InitState}
-use Rattle.link_versions.specs.declared.class.InitState.TheVariants as states
-use Rattle.machine_state.specs.Core.{Core, Thread, Activity, Free, Throwing, Waiting, Joining, Wanting, failure_of, monitor_at}
+use Rattle.ti_ids.specs.declared.state.InitState.{InitState}
+use Rattle.ti_ids.specs.declared.state.InitState.TheVariants as states
+use Rattle.ti_ids.specs.declared.state.Activity.{Activity}
+use Rattle.ti_ids.specs.declared.state.Activity.TheVariants.{Free, Throwing, Waiting, Joining, Wanting}
+use Rattle.machine_state.specs.Core.{Core, CoreClass, Thread, failure_of, monitor_at}
 use Rattle.machine_state.specs.Trace.{Trace}
 use Rattle.machine_state.specs.Linked.{array_type}
 use Rattle.machine_state.specs.Places.{is_suspended}
 
 -- ---- classes
 
--- The loaded classes, those of the base set first and then in the order of loading. Array classes are none of them.
+-- Array classes are no loaded classes.
+abbrev pub loaded_classes : Core → List CoreClass
+loaded_classes core = filter (λ c. is_none (array_type c.name)) core.classes
+
+-- those of the base set first and then in the order of loading
 abbrev pub loaded_names : Core → List Name
-loaded_names core = reverse (filter (λ name. is_none (array_type name)) (map (λ c. c.name) core.classes))
+loaded_names core = reverse (map (λ c. c.name) (loaded_classes core))
 
 -- loaded 0, linked 3, initialized 7; 8 for a class whose type check or initialization failed
 abbrev pub status_of : Bool → InitState → ℕ
@@ -27,7 +33,7 @@ status_of has_failed states.Initialized = 7
 status_of has_failed states.Erroneous = 8
 
 abbrev pub class_status : Core → Name → Option ℕ
-class_status core name = option_map (λ c. status_of (is_some (failure_of core name)) c.state) (find (λ c. bytes_eq c.name name) core.classes)
+class_status core name = option_map (λ c. status_of (is_some (failure_of core name)) c.state) (find (λ c. bytes_eq c.name name) (loaded_classes core))
 
 -- ---- threads
 

@@ -1,31 +1,15 @@
 -- The versions of a class (JVM TI, "RedefineClasses" and "RetransformClasses"), as the trace has them: each load, redefinition and
 -- retransformation makes one. What a set of rules answers is given by `turns`.
-use Rattle.std.specs.Prelude.{ℕ, List, [], ◌∷◌, ◌++◌, fold, Option, Some, None, unwrap_or, bytes_eq, if◌then◌else◌}
-use Rattle.std.specs.Option.{option_and_then}
-use Rattle.ti_ids.specs.declared.number.EnvNo.{EnvNo}
+use Rattle.std.specs.Prelude.{ℕ, List, [], ◌∷◌, ◌++◌, fold, Option, Some, None, bytes_eq, if◌then◌else◌}
 use Rattle.ti_ids.specs.declared.actor.Actor.{Actor}
 use Rattle.jv_names.specs.Names.{Name}
+use Rattle.transform_chain.specs.declared.active.Active.{Active}
+use Rattle.transform_chain.specs.Groups.{up_to_group, from_group}
+use Rattle.transform_chain.specs.Turns.{Does, folded}
 use Rattle.machine_state.specs.Jobs.{Job}
 use Rattle.machine_state.specs.Trace.{Record, Trace, Loaded, Redefined, Retransformed}
-use Rattle.machine_state.specs.Chains.{Transformer, incapable_chain, capable_chain}
-
--- What the rules of a set of an environment make of a class's bytes, or nothing.
-abbrev pub Turns : Type 0
-Turns = EnvNo → Name → Name → List ℕ → Option (List ℕ)
-
--- what one transformer makes of them; one without a set makes nothing
-abbrev pub turn : Turns → Name → Transformer → List ℕ → Option (List ℕ)
-turn turns class t bytes = option_and_then (λ set. turns t.environment set class bytes) t.set
-
--- the bytes after its turn, which leaves them where it makes nothing
-abbrev pub turned : Turns → Name → List ℕ → Transformer → List ℕ
-turned turns class bytes t = unwrap_or (turn turns class t bytes) bytes
-
--- the bytes after the turns of these, one after the other
-abbrev pub folded : Turns → Name → List Transformer → List ℕ → List ℕ
-folded turns class ts bytes = fold (turned turns class) bytes ts
-
--- ---- versions
+use Rattle.machine_state.specs.Chains.{chain}
+pub use Rattle.machine_state.specs.Chains.{Turns}
 
 -- a version: the bytes that were kept when it was made, from which a retransformation begins, and its own bytes
 pub record Version : Type 0 where
@@ -45,14 +29,15 @@ making class (Retransformed name) = if bytes_eq name class then Again else Nothi
 making class _ = Nothing
 
 module _ (job : Job) (turns : Turns) (class : Name) where
-  -- the version of kept bytes, by the transformers that are active before the record
-  abbrev pub version_of : Trace → Actor → List ℕ → Version
-  version_of before actor kept = record { kept = kept; bytes = folded turns class (capable_chain job before actor) kept }
+  -- the version of kept bytes, by these active transformers
+  abbrev pub version_of : List (Active Does) → List ℕ → Version
+  version_of ts kept = record { kept = kept; bytes = folded class (from_group 3 ts) kept }
 
-  -- the version that a record behind these makes, where these bytes were kept
+  -- The version that a record behind these makes, where these bytes were kept, by the transformers that are active before the record. What
+  -- those that aren't capable of retransformation leave of given bytes is kept.
   abbrev pub version_made : Trace → Actor → List ℕ → Making → Option Version
-  version_made before actor kept (Given bytes) = Some (version_of before actor (folded turns class (incapable_chain job before actor) bytes))
-  version_made before actor kept Again = Some (version_of before actor kept)
+  version_made before actor kept (Given bytes) = let ts = chain job turns before actor in Some (version_of ts (folded class (up_to_group 2 ts) bytes))
+  version_made before actor kept Again = Some (version_of (chain job turns before actor) kept)
   version_made before actor kept Nothing = None
 
   -- the versions that the rest of a trace makes, where these bytes were kept

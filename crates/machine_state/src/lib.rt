@@ -4,4 +4,4 @@
 
 mod laws;
 
-pub use laws::state_laws;
+pub use laws::{change_laws, state_laws};

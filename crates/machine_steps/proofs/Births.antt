@@ -1,21 +1,22 @@
 -- Every frame was born by now, of classes that are there.
 use Rattle.std.proofs.Common.{◌≡◌, ◌≤◌, ◌<◌, ℕ, zero, suc, ◌+◌, ◌-◌, Bool, true, false, cond, List, [], ◌∷◌, ◌++◌, length, length-append, Option, Some, None, refl, sym, subst, arith}
 use Rattle.jv_names.proofs.DescriptorPlaces.{and-left, and-right}
-use Rattle.std.specs.Prelude.{fold, filter, slice_get, slice_set, drop, map, nat_le, bytes_eq}
-use Rattle.std.specs.List.{AllByRecursion, list_any}
+use Rattle.std.specs.Prelude.{fold, filter, slice_get, slice_set, drop, nat_le}
+use Rattle.std.specs.List.{AllByRecursion}
 use Rattle.std.specs.Option.{option_map_or}
 use Rattle.std.proofs.lemmas.Bool.{leb-true}
 use Rattle.std.proofs.lemmas.Bool.Decides.{nat_tests}
 use Rattle.ti_ids.specs.declared.number.ThreadNo.{ThreadNo}
 use Rattle.ti_ids.specs.declared.number.ClassNo.{ClassNo}
+use Rattle.ti_ids.specs.declared.number.ObjNo.{ObjNo}
 use Rattle.ti_ids.specs.declared.actor.Actor.{Actor}
 use Rattle.thread_frames.specs.declared.frame.StackEntry.TheVariants.{Java, Init}
 use Rattle.machine_state.specs.Jobs.{Job, counted}
-use Rattle.machine_state.specs.Core.{Core, CoreClass, MethodFrame, StackFrame, Thread, has_class, is_of_classes, with_thread}
+use Rattle.machine_state.specs.Core.{Core, CoreClass, MethodFrame, StackFrame, Thread, has_class, is_of_classes, most_threads, with_thread}
 use Rattle.machine_state.specs.Trace.{Trace}
 use Rattle.link_versions.specs.Classes.{with_numbered}
-use Rattle.machine_state.specs.Acts.{State, Act, Change, Changes, Notes, Makes, PutsField, PutsElement, PutsSide, PutsBehind, PutsStatic, Enters, Leaves, GoesToWait, Notifies, NotifiesAll, TakesBack, Prints, SetsTop, Pops, Pushes, PushesInit, SetsState, SetsActivity, MakesThread, AddsClass, SetsClass, EntersInitializer, Fails, SetsPhase, Dies, TakesCall, TakesScript, changed, acted, going_on, born_at, with_born, is_note, birth_after}
-use Rattle.machine_steps.specs.Settings.{Setting}
+use Rattle.machine_state.specs.Acts.{State, Act, Change, Changes, Notes, Makes, PutsField, PutsElement, PutsSide, PutsBehind, PutsStatic, Enters, Leaves, GoesToWait, Notifies, NotifiesAll, TakesBack, Prints, SetsTop, Pops, Pushes, PushesInit, SetsState, SetsActivity, MakesThread, AddsClass, SetsClass, EntersInitializer, Fails, SetsPhase, MarksDeath, TakesCall, TakesScript, new_thread, is_barred, changed, acted, going_on, born_at, with_born, is_note, birth_after}
+use Rattle.machine_steps.specs.World.{World}
 use Rattle.machine_steps.specs.Actors.{next_acts}
 use Rattle.machine_steps.specs.Replay.{opening, step, step_by, run_from, state}
 use Rattle.machine_steps.specs.Laws.{WasBorn, AreBorn, FramesAreBorn}
@@ -54,7 +55,8 @@ later_frames n m c d [] le more h = tt
 later_frames n m c d (Java f ∷ below) le more h = (later_frame n m c d f le more h.0, later_frames n m c d below le more h.1)
 later_frames n m c d (Init class ∷ below) le more h = (tt, later_frames n m c d below le more h.1)
 
-going_frame : (n c : ℕ) (f g : MethodFrame) → IsOldFrame n c g → IsOldFrame n c (record g { pc = f.pc; locals = f.locals; stack = f.stack; announced = f.announced })
+going_frame : (n c : ℕ) (f g : MethodFrame) → IsOldFrame n c g
+    → IsOldFrame n c (record g { pc = f.pc; locals = f.locals; stack = f.stack; announced = f.announced })
 going_frame n c f g h = record { birth = h.birth; class = h.class; method = h.method }
 
 going_old : (n c : ℕ) (f : MethodFrame) (frames : List StackFrame) → OldFrames n c frames → OldFrames n c (going_on f frames)
@@ -78,12 +80,14 @@ born_old n classes f e = record {
   method = class_there classes f.method.class (and-right (has_class classes f.class) (has_class classes f.method.class) e);
 }
 
-pushed_by : (n : ℕ) (classes : List CoreClass) (f : MethodFrame) (frames : List StackFrame) (b : Bool) → is_of_classes classes f ≡ b → OldFrames n (length classes) frames
+pushed_by : (n : ℕ) (classes : List CoreClass) (f : MethodFrame) (frames : List StackFrame) (b : Bool) → is_of_classes classes f ≡ b
+    → OldFrames n (length classes) frames
     → OldFrames n (length classes) (cond b (Java (born_at n f) ∷ frames) frames)
 pushed_by n classes f frames true e h = (born_old n classes f e, h)
 pushed_by n classes f frames false e h = h
 
-pushed_old : (n : ℕ) (classes : List CoreClass) (f : MethodFrame) (frames : List StackFrame) → OldFrames n (length classes) frames → OldFrames n (length classes) (with_born n classes f frames)
+pushed_old : (n : ℕ) (classes : List CoreClass) (f : MethodFrame) (frames : List StackFrame) → OldFrames n (length classes) frames
+    → OldFrames n (length classes) (with_born n classes f frames)
 pushed_old n classes f frames h = pushed_by n classes f frames (is_of_classes classes f) refl h
 
 -- ---- all threads
@@ -92,24 +96,33 @@ later_threads : (n m c d : ℕ) (threads : List Thread) → n ≤ m → c ≤ d 
 later_threads n m c d [] le more h = tt
 later_threads n m c d (t ∷ threads) le more h = (later_frames n m c d t.frames le more h.0, later_threads n m c d threads le more h.1)
 
-set_old : (n c : ℕ) (threads : List Thread) (k : ℕ) (change : Thread → Thread) (found : Option Thread) → slice_get threads k ≡ found → ((t : Thread) → OldThread n c t → OldThread n c (change t))
+set_old : (n c : ℕ) (threads : List Thread) (k : ℕ) (change : Thread → Thread) (found : Option Thread) → slice_get threads k ≡ found
+    → ((t : Thread) → OldThread n c t → OldThread n c (change t))
     → AreOld n c threads → AreOld n c (option_map_or (λ t. slice_set threads k (change t)) found threads)
 set_old n c threads k change None e keep h = h
 set_old n c [] k change (Some t) e keep h = absurd cc
 set_old n c (u ∷ threads) zero change (Some t) e keep h = let same : u ≡ t = cc in (keep t (subst (OldThread n c) same h.0), h.1)
 set_old n c (u ∷ threads) (suc k) change (Some t) e keep h = (h.0, set_old n c threads k change (Some t) e keep h.1)
 
-with_old : (n c : ℕ) (core : Core) (t : ThreadNo) (change : Thread → Thread) → ((u : Thread) → OldThread n c u → OldThread n c (change u)) → AreOld n c core.threads
+with_old : (n c : ℕ) (core : Core) (t : ThreadNo) (change : Thread → Thread) → ((u : Thread) → OldThread n c u → OldThread n c (change u))
+    → AreOld n c core.threads
     → AreOld n c (with_thread change t core).threads
 with_old n c core t change keep h = by t.0
   where
     by : (k : ℕ) → AreOld n c (option_map_or (λ thread. slice_set core.threads (k - 1) (change thread)) (counted core.threads k) core.threads)
     by zero = h
-    by (suc k) = subst (λ (p : ℕ). AreOld n c (option_map_or (λ thread. slice_set core.threads p (change thread)) (slice_get core.threads k) core.threads)) (let same : k ≡ suc k - 1 = omega arith in same) (set_old n c core.threads k change (slice_get core.threads k) refl keep h)
+    by (suc k) =
+        subst (λ (p : ℕ). AreOld n c (option_map_or (λ thread. slice_set core.threads p (change thread)) (slice_get core.threads k) core.threads))
+        (let same : k ≡ suc k - 1 = omega arith in same) (set_old n c core.threads k change (slice_get core.threads k) refl keep h)
 
 append_old : (n c : ℕ) (threads : List Thread) (t : Thread) → OldThread n c t → AreOld n c threads → AreOld n c (threads ++ t ∷ [])
 append_old n c [] t one h = (one, tt)
 append_old n c (u ∷ threads) t one h = (h.0, append_old n c threads t one h.1)
+
+made_old : (n c : ℕ) (object : ObjNo) (threads : List Thread) (full : Bool) → AreOld n c threads
+    → AreOld n c (cond full threads (threads ++ new_thread object ∷ []))
+made_old n c object threads true h = h
+made_old n c object threads false h = append_old n c threads (new_thread object) tt h
 
 -- ---- one change, with births up to this
 
@@ -120,22 +133,30 @@ numbered_length : (change : CoreClass → CoreClass) (classes : List CoreClass) 
 numbered_length change [] k = refl
 numbered_length change (c ∷ older) k = grind (arith, nat_tests, numbered_length change older k)
 
-as_many : (n : ℕ) (change : CoreClass → CoreClass) (core : Core) (k : ℕ) → IsOldCore n core → AreOld n (length (with_numbered change core.classes k)) core.threads
+as_many : (n : ℕ) (change : CoreClass → CoreClass) (core : Core) (k : ℕ) → IsOldCore n core
+    → AreOld n (length (with_numbered change core.classes k)) core.threads
 as_many n change core k h = subst (λ (c : ℕ). AreOld n c core.threads) (sym (numbered_length change core.classes k)) h
 
-one_more : (n : ℕ) (core : Core) (there : Bool) (c : CoreClass) → IsOldCore n core → AreOld n (length (cond there core.classes (c ∷ core.classes))) core.threads
+one_more : (n : ℕ) (core : Core) (there : Bool) (c : CoreClass) → IsOldCore n core
+    → AreOld n (length (cond there core.classes (c ∷ core.classes))) core.threads
 one_more n core true c h = h
 one_more n core false c h = later_threads n n (length core.classes) (suc (length core.classes)) core.threads (omega arith) (omega arith) h
 
 change_old : (birth : ℕ) (c : Change) (core : Core) → IsOldCore birth core → IsOldCore birth (changed birth c core)
-change_old birth (SetsTop t frame) core h = with_old birth (length core.classes) core t (λ u. record u { frames = going_on frame u.frames }) (λ u k. going_old birth (length core.classes) frame u.frames k) h
-change_old birth (Pops t) core h = with_old birth (length core.classes) core t (λ u. record u { frames = drop 1 u.frames }) (λ u k. popped_old birth (length core.classes) u.frames k) h
-change_old birth (Pushes t frame) core h = with_old birth (length core.classes) core t (λ u. record u { frames = with_born birth core.classes frame u.frames }) (λ u k. pushed_old birth core.classes frame u.frames k) h
+change_old birth (SetsTop t frame) core h =
+    with_old birth (length core.classes) core t (λ u. record u { frames = going_on frame u.frames })
+    (λ u k. going_old birth (length core.classes) frame u.frames k) h
+change_old birth (Pops t) core h =
+    with_old birth (length core.classes) core t (λ u. record u { frames = drop 1 u.frames })
+    (λ u k. popped_old birth (length core.classes) u.frames k) h
+change_old birth (Pushes t frame) core h =
+    with_old birth (length core.classes) core t (λ u. record u { frames = with_born birth core.classes frame u.frames })
+    (λ u k. pushed_old birth core.classes frame u.frames k) h
 change_old birth (PushesInit t class) core h = with_old birth (length core.classes) core t _ (λ u k. (tt, k)) h
 change_old birth (SetsState t state) core h = with_old birth (length core.classes) core t (λ u. record u { state = state }) (λ u k. k) h
 change_old birth (SetsActivity t activity) core h = with_old birth (length core.classes) core t (λ u. record u { activity = activity }) (λ u k. k) h
-change_old birth (MakesThread object) core h = append_old birth (length core.classes) core.threads _ tt h
-change_old birth (AddsClass name state) core h = one_more birth core (list_any (bytes_eq name) (map (λ c. c.name) core.classes)) _ h
+change_old birth (MakesThread object) core h = made_old birth (length core.classes) object core.threads (nat_le most_threads (length core.threads)) h
+change_old birth (AddsClass name state) core h = one_more birth core (is_barred core name) _ h
 change_old birth (SetsClass class state) core h = as_many birth _ core class.0 h
 change_old birth (EntersInitializer class) core h = as_many birth _ core class.0 h
 change_old birth (Makes object) core h = h
@@ -153,7 +174,7 @@ change_old birth (TakesBack object t) core h = h
 change_old birth (Prints bytes) core h = h
 change_old birth (Fails class error) core h = h
 change_old birth (SetsPhase phase) core h = h
-change_old birth Dies core h = h
+change_old birth MarksDeath core h = h
 change_old birth (TakesCall actor) core h = h
 change_old birth (TakesScript env) core h = h
 
@@ -161,13 +182,15 @@ act_old : (job : Job) (actor : Actor) (birth : ℕ) (s : State) (a : Act) → Is
 act_old job actor birth s (Changes c) h = change_old birth c s.core h
 act_old job actor birth s (Notes what) h = h
 
-acts_old : (job : Job) (actor : Actor) (birth : ℕ) (s : State) (acts : List Act) → IsOldCore birth s.core → IsOldCore birth (fold (acted job actor birth) s acts).core
+acts_old : (job : Job) (actor : Actor) (birth : ℕ) (s : State) (acts : List Act) → IsOldCore birth s.core
+    → IsOldCore birth (fold (acted job actor birth) s acts).core
 acts_old job actor birth s [] h = h
 acts_old job actor birth s (a ∷ acts) h = acts_old job actor birth (acted job actor birth s a) acts (act_old job actor birth s a h)
 
 -- ---- the trace has the length of the birth when the step has ended
 
-grown_length : (job : Job) (actor : Actor) (birth : ℕ) (s : State) (acts : List Act) → length (fold (acted job actor birth) s acts).trace ≡ length s.trace + length (filter is_note acts)
+grown_length : (job : Job) (actor : Actor) (birth : ℕ) (s : State) (acts : List Act)
+    → length (fold (acted job actor birth) s acts).trace ≡ length s.trace + length (filter is_note acts)
 grown_length job actor birth s [] = omega arith
 grown_length job actor birth s (Changes c ∷ acts) = grown_length job actor birth (acted job actor birth s (Changes c)) acts
 grown_length job actor birth s (Notes what ∷ acts) =
@@ -180,29 +203,33 @@ grown_length job actor birth s (Notes what ∷ acts) =
 abbrev IsBornIn : State → Type 0
 IsBornIn s = IsOldCore (length s.trace) s.core
 
-step_old : (setting : Setting) (s : State) (actor : Actor) (next : Option (List Act)) → IsBornIn s → IsBornIn (step_by setting s actor next)
-step_old setting s actor None h = h
-step_old setting s actor (Some acts) h =
+step_old : (w : World) (s : State) (actor : Actor) (next : Option (List Act)) → IsBornIn s → IsBornIn (step_by w s actor next)
+step_old w s actor None h = h
+step_old w s actor (Some acts) h =
     let birth = birth_after s.trace acts in
-    let old = acts_old setting.job actor birth s acts (later_threads (length s.trace) birth (length s.core.classes) (length s.core.classes) s.core.threads (omega arith) (omega arith) h) in
-    subst (λ (n : ℕ). IsOldCore n (fold (acted setting.job actor birth) s acts).core) (sym (grown_length setting.job actor birth s acts)) old
+    let many = length s.core.classes in
+    let old = acts_old w.job actor birth s acts (later_threads (length s.trace) birth many many s.core.threads (omega arith) (omega arith) h) in
+    subst (λ (n : ℕ). IsOldCore n (fold (acted w.job actor birth) s acts).core) (sym (grown_length w.job actor birth s acts)) old
 
-run_old : (setting : Setting) (s : State) (schedule : List Actor) → IsBornIn s → IsBornIn (run_from setting s schedule)
-run_old setting s [] h = h
-run_old setting s (actor ∷ schedule) h = run_old setting (step setting s actor) schedule (step_old setting s actor (next_acts setting s actor) h)
+run_old : (w : World) (s : State) (schedule : List Actor) → IsBornIn s → IsBornIn (run_from w s schedule)
+run_old w s [] h = h
+run_old w s (actor ∷ schedule) h = run_old w (step w s actor) schedule (step_old w s actor (next_acts w s actor) h)
 
 -- ---- as the law says it
 
-frames_born : (trace : Trace) (classes : List CoreClass) (frames : List StackFrame) → OldFrames (length trace) (length classes) frames → AllByRecursion (WasBorn trace classes) frames
+frames_born : (trace : Trace) (classes : List CoreClass) (frames : List StackFrame) → OldFrames (length trace) (length classes) frames
+    → AllByRecursion (WasBorn trace classes) frames
 frames_born trace classes [] h = tt
-frames_born trace classes (Java f ∷ below) h = (record { birth = h.0.birth; class = h.0.class; method = h.0.method }, frames_born trace classes below h.1)
+frames_born trace classes (Java f ∷ below) h =
+    (record { birth = h.0.birth; class = h.0.class; method = h.0.method }, frames_born trace classes below h.1)
 frames_born trace classes (Init class ∷ below) h = (tt, frames_born trace classes below h.1)
 
-threads_born : (trace : Trace) (classes : List CoreClass) (threads : List Thread) → AreOld (length trace) (length classes) threads → AreBorn trace classes threads
+threads_born : (trace : Trace) (classes : List CoreClass) (threads : List Thread) → AreOld (length trace) (length classes) threads
+    → AreBorn trace classes threads
 threads_born trace classes [] h = tt
 threads_born trace classes (t ∷ threads) h = (frames_born trace classes t.frames h.0, threads_born trace classes threads h.1)
 
 pub frames_are_born : FramesAreBorn
 unfolding opening
-frames_are_born setting schedule =
-    let s = state setting schedule in threads_born s.trace s.core.classes s.core.threads (run_old setting (opening setting.job) schedule tt)
+frames_are_born w schedule =
+    let s = state w schedule in threads_born s.trace s.core.classes s.core.threads (run_old w (opening w.job) schedule tt)

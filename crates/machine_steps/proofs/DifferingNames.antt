@@ -8,8 +8,8 @@ use Rattle.ti_ids.specs.declared.actor.Actor.{Actor}
 use Rattle.link_versions.specs.Classes.{with_numbered}
 use Rattle.machine_state.specs.Jobs.{Job}
 use Rattle.machine_state.specs.Core.{Core, CoreClass}
-use Rattle.machine_state.specs.Acts.{State, Act, Change, Changes, Notes, Makes, PutsField, PutsElement, PutsSide, PutsBehind, PutsStatic, Enters, Leaves, GoesToWait, Notifies, NotifiesAll, TakesBack, Prints, SetsTop, Pops, Pushes, PushesInit, SetsState, SetsActivity, MakesThread, AddsClass, SetsClass, EntersInitializer, Fails, SetsPhase, Dies, TakesCall, TakesScript, changed, acted, birth_after}
-use Rattle.machine_steps.specs.Settings.{Setting}
+use Rattle.machine_state.specs.Acts.{State, Act, Change, Changes, Notes, Makes, PutsField, PutsElement, PutsSide, PutsBehind, PutsStatic, Enters, Leaves, GoesToWait, Notifies, NotifiesAll, TakesBack, Prints, SetsTop, Pops, Pushes, PushesInit, SetsState, SetsActivity, MakesThread, AddsClass, SetsClass, EntersInitializer, Fails, SetsPhase, MarksDeath, TakesCall, TakesScript, has_failed_load, changed, acted, birth_after}
+use Rattle.machine_steps.specs.World.{World}
 use Rattle.machine_steps.specs.Actors.{next_acts}
 use Rattle.machine_steps.specs.Replay.{opening, step, step_by, run_from}
 use Rattle.machine_steps.specs.Laws.{NamesDiffer}
@@ -31,20 +31,25 @@ or_second false b e = e
 none_has : (name : Name) (names : List Name) → list_any (bytes_eq name) names ≡ false → AllByRecursion (λ other. bytes_eq name other ≡ false) names
 none_has name [] e = tt
 none_has name (other ∷ names) e =
-    (or_first (bytes_eq name other) (list_any (bytes_eq name) names) e, none_has name names (or_second (bytes_eq name other) (list_any (bytes_eq name) names) e))
+    let rest = list_any (bytes_eq name) names in
+    (or_first (bytes_eq name other) rest e, none_has name names (or_second (bytes_eq name other) rest e))
 
-added_differs : (c : CoreClass) (classes : List CoreClass) (there : Bool) → list_any (bytes_eq c.name) (map (λ x. x.name) classes) ≡ there → AreDifferent classes
-    → AreDifferent (cond there classes (c ∷ classes))
-added_differs c classes true e h = h
-added_differs c classes false e h = let names = map (λ (x : CoreClass). x.name) classes in IsDistinct-cons bytes_eq c.name names (none_has c.name names e) h
+added_differs : (c : CoreClass) (classes : List CoreClass) (there failed : Bool) → list_any (bytes_eq c.name) (map (λ x. x.name) classes) ≡ there
+    → AreDifferent classes → AreDifferent (cond (there || failed) classes (c ∷ classes))
+added_differs c classes true failed e h = h
+added_differs c classes false true e h = h
+added_differs c classes false false e h =
+    let names = map (λ (x : CoreClass). x.name) classes in IsDistinct-cons bytes_eq c.name names (none_has c.name names e) h
 
-same_differ : (change : CoreClass → CoreClass) (classes : List CoreClass) (n : ℕ) → ((c : CoreClass) → (change c).name ≡ c.name) → AreDifferent classes
+same_differ : (change : CoreClass → CoreClass) (classes : List CoreClass) (n : ℕ) → ((c : CoreClass) → (change c).name ≡ c.name)
+    → AreDifferent classes
     → AreDifferent (with_numbered change classes n)
 same_differ change classes n same h = subst (λ (names : List Name). IsDistinct bytes_eq names) (sym (names_same change classes n same)) h
 
 change_differs : (birth : ℕ) (c : Change) (core : Core) → AreDifferent core.classes → AreDifferent (changed birth c core).classes
 change_differs birth (AddsClass name state) core h =
-    added_differs (record { name = name; state = state; entered = false }) core.classes (list_any (bytes_eq name) (map (λ x. x.name) core.classes)) refl h
+    let there = list_any (bytes_eq name) (map (λ (x : CoreClass). x.name) core.classes) in
+    added_differs (record { name = name; state = state; entered = false }) core.classes there (has_failed_load core name) refl h
 change_differs birth (SetsClass class state) core h = same_differ _ core.classes class.0 (λ c. refl) h
 change_differs birth (EntersInitializer class) core h = same_differ _ core.classes class.0 (λ c. refl) h
 change_differs birth (Makes object) core h = h
@@ -69,28 +74,31 @@ change_differs birth (SetsActivity t activity) core h = h
 change_differs birth (MakesThread object) core h = h
 change_differs birth (Fails class error) core h = h
 change_differs birth (SetsPhase phase) core h = h
-change_differs birth Dies core h = h
+change_differs birth MarksDeath core h = h
 change_differs birth (TakesCall actor) core h = h
 change_differs birth (TakesScript env) core h = h
 
 -- ---- acts, steps and schedules
 
-act_differs : (job : Job) (actor : Actor) (birth : ℕ) (s : State) (a : Act) → AreDifferent s.core.classes → AreDifferent (acted job actor birth s a).core.classes
+act_differs : (job : Job) (actor : Actor) (birth : ℕ) (s : State) (a : Act) → AreDifferent s.core.classes
+    → AreDifferent (acted job actor birth s a).core.classes
 act_differs job actor birth s (Changes c) h = change_differs birth c s.core h
 act_differs job actor birth s (Notes what) h = h
 
-acts_differ : (job : Job) (actor : Actor) (birth : ℕ) (s : State) (acts : List Act) → AreDifferent s.core.classes → AreDifferent (fold (acted job actor birth) s acts).core.classes
+acts_differ : (job : Job) (actor : Actor) (birth : ℕ) (s : State) (acts : List Act) → AreDifferent s.core.classes
+    → AreDifferent (fold (acted job actor birth) s acts).core.classes
 acts_differ job actor birth s [] h = h
 acts_differ job actor birth s (a ∷ acts) h = acts_differ job actor birth (acted job actor birth s a) acts (act_differs job actor birth s a h)
 
-step_differs : (setting : Setting) (s : State) (actor : Actor) (next : Option (List Act)) → AreDifferent s.core.classes → AreDifferent (step_by setting s actor next).core.classes
-step_differs setting s actor None h = h
-step_differs setting s actor (Some acts) h = acts_differ setting.job actor (birth_after s.trace acts) s acts h
+step_differs : (w : World) (s : State) (actor : Actor) (next : Option (List Act)) → AreDifferent s.core.classes
+    → AreDifferent (step_by w s actor next).core.classes
+step_differs w s actor None h = h
+step_differs w s actor (Some acts) h = acts_differ w.job actor (birth_after s.trace acts) s acts h
 
-run_differs : (setting : Setting) (s : State) (schedule : List Actor) → AreDifferent s.core.classes → AreDifferent (run_from setting s schedule).core.classes
-run_differs setting s [] h = h
-run_differs setting s (actor ∷ schedule) h = run_differs setting (step setting s actor) schedule (step_differs setting s actor (next_acts setting s actor) h)
+run_differs : (w : World) (s : State) (schedule : List Actor) → AreDifferent s.core.classes → AreDifferent (run_from w s schedule).core.classes
+run_differs w s [] h = h
+run_differs w s (actor ∷ schedule) h = run_differs w (step w s actor) schedule (step_differs w s actor (next_acts w s actor) h)
 
 pub names_differ : NamesDiffer
 unfolding opening IsDistinct
-names_differ setting schedule = run_differs setting (opening setting.job) schedule tt
+names_differ w schedule = run_differs w (opening w.job) schedule tt

@@ -1,11 +1,14 @@
 pub mod Growing
 pub mod Stepping
+pub mod NextCalls
+pub mod FewThreads
+pub mod FailedLoads
 pub mod Picking
 pub mod Ending
+pub mod Statable
+pub mod Bounded
+pub mod Reporting
 pub mod LoadingOnce
 pub mod StayingCode
 pub mod DifferingNames
 pub mod Births
-pub mod Checking
-pub mod WorkerWords
-pub mod ManyWorkers

@@ -13,7 +13,7 @@ use Rattle.machine_state.specs.Laws.{names_of, IsBorn}
 use Rattle.machine_state.specs.Trace.{Trace}
 use Rattle.machine_state.specs.Acts.{State}
 use Rattle.machine_state.proofs.KeepingCode.{keeps_code}
-use Rattle.machine_steps.specs.Settings.{Setting}
+use Rattle.machine_steps.specs.World.{World}
 use Rattle.machine_steps.specs.Replay.{step, state}
 use Rattle.machine_steps.specs.Laws.{CodeStays, WasBorn, AreBorn}
 use Rattle.machine_steps.proofs.Stepping.{adds_records, classes_stay}
@@ -33,17 +33,18 @@ split (n ∷ new) old (c ∷ classes) e =
     let more = split new old classes (let rest : names_of classes ≡ new ++ old = cc in rest) in
     record { first = c ∷ more.first; rest = more.rest; whole = ap (λ (l : List CoreClass). c ∷ l) more.whole; named = more.named }
 
-born_stays : (setting : Setting) (s : State) (actor : Actor) (f : MethodFrame) → IsBorn s.trace s.core.classes f
-    → code setting.job setting.turns (step setting s actor).trace (step setting s actor).core.classes f ≡ code setting.job setting.turns s.trace s.core.classes f
-born_stays setting s actor f born =
-    let grown = adds_records setting s actor in let named = classes_stay setting s actor in
-    let after = step setting s actor in
+born_stays : (w : World) (s : State) (actor : Actor) (f : MethodFrame) → IsBorn s.trace s.core.classes f
+    → code w.job w.turns (step w s actor).trace (step w s actor).core.classes f ≡ code w.job w.turns s.trace s.core.classes f
+born_stays w s actor f born =
+    let grown = adds_records w s actor in let named = classes_stay w s actor in
+    let after = step w s actor in
     let parts = split named.new (names_of s.core.classes) after.core.classes named.grown in
-    rw (grown.grown, parts.whole) (keeps_code setting.job setting.turns s.trace grown.more s.core.classes parts.first parts.rest f born parts.named)
+    rw (grown.grown, parts.whole) (keeps_code w.job w.turns s.trace grown.more s.core.classes parts.first parts.rest f born parts.named)
 
 -- ---- the frames that a thread has were born
 
-frame_born : (trace : Trace) (classes : List CoreClass) (frames : List StackFrame) (place : ℕ) (f : MethodFrame) → AllByRecursion (WasBorn trace classes) frames
+frame_born : (trace : Trace) (classes : List CoreClass) (frames : List StackFrame) (place : ℕ) (f : MethodFrame)
+    → AllByRecursion (WasBorn trace classes) frames
     → slice_get frames place ≡ Some (Java f) → IsBorn trace classes f
 frame_born trace classes [] place f h e = absurd cc
 frame_born trace classes (g ∷ frames) zero f h e = let same : g ≡ Java f = cc in subst (WasBorn trace classes) same h.0
@@ -61,7 +62,7 @@ number_born trace classes threads zero h = tt
 number_born trace classes threads (suc place) h = thread_born trace classes threads place h
 
 pub code_stays : CodeStays
-code_stays setting schedule actor t place f at =
-    let s = state setting schedule in
-    let born = number_born s.trace s.core.classes s.core.threads t.0 (frames_are_born setting schedule) in
-    born_stays setting s actor f (frame_born s.trace s.core.classes (frames_at s.core t) place f born at)
+code_stays w schedule actor t place f at =
+    let s = state w schedule in
+    let born = number_born s.trace s.core.classes s.core.threads t.0 (frames_are_born w schedule) in
+    born_stays w s actor f (frame_born s.trace s.core.classes (frames_at s.core t) place f born at)

@@ -1,11 +1,12 @@
 -- The steps of the machine itself and of agents, and which actor may make the next step.
-use Rattle.std.specs.Prelude.{codes, ◌+◌, Bool, true, false, not, ◌&&◌, nat_le, List, [], ◌∷◌, ◌++◌, map, length, position, Option, Some, None, is_some, if◌then◌else◌}
+use Rattle.std.specs.Prelude.{codes, ◌+◌, Bool, true, false, not, ◌&&◌, nat_le, List, [], ◌∷◌, ◌++◌, map, length, position, Option, Some, None, option_map, is_some, if◌then◌else◌}
 use Rattle.std.specs.List.{list_all}
-use Rattle.std.specs.Option.{option_map_or}
+use Rattle.std.specs.Option.{option_map_or, option_or}
 use Rattle.ti_ids.specs.Maybe.{◌>>=◌}
 use Rattle.ti_ids.specs.declared.number.EnvNo.{EnvNo}
 use Rattle.ti_ids.specs.declared.number.FieldNo.{FieldNo}
 use Rattle.ti_ids.specs.declared.number.ClassNo.{ClassNo}
+use Rattle.ti_ids.specs.declared.number.ThreadNo.{ThreadNo}
 use Rattle.ti_ids.specs.declared.actor.Actor.{Actor}
 use Rattle.ti_ids.specs.declared.actor.Actor.TheVariants.{Vm, Thread, Agent}
 use Rattle.ti_ids.specs.declared.value.Value.TheVariants as value
@@ -15,17 +16,19 @@ use Rattle.jv_names.specs.Names.{Name}
 use Rattle.base_set.specs.BaseSet.{base_set, has_name}
 use Rattle.java_heap.specs.Objects.{fresh}
 use Rattle.java_heap.specs.declared.object.Content.TheVariants.{Fields}
-use Rattle.link_versions.specs.declared.class.InitState.TheVariants as states
+use Rattle.ti_ids.specs.declared.state.InitState.TheVariants as states
 use Rattle.machine_state.specs.Jobs as jobs
-use Rattle.machine_state.specs.Jobs.{Job, ScriptCall, agent_at, counted}
-use Rattle.machine_state.specs.Core.{Core, has_ended, queue_of, script_place}
+use Rattle.machine_state.specs.Jobs.{ScriptCall, agent_at, counted}
+use Rattle.machine_state.specs.Core.{Core, has_ended, script_place}
 use Rattle.machine_state.specs.Trace.{Started, Inited, Died, VMStart, VMInit, VMDeath}
 use Rattle.machine_state.specs.Environments.{is_disposed}
 use Rattle.machine_state.specs.Logs.{log}
-use Rattle.machine_state.specs.Acts.{State, Act, Changes, Notes, Makes, PutsStatic, MakesThread, AddsClass, SetsPhase, Dies, TakesScript, raises}
-use Rattle.machine_steps.specs.Settings.{Setting}
+use Rattle.machine_state.specs.Acts.{State, Act, Changes, Notes, Makes, PutsStatic, MakesThread, AddsClass, SetsPhase, MarksDeath, raises}
+use Rattle.machine_steps.specs.World.{World}
 use Rattle.machine_steps.specs.Sites.{classes_now}
-use Rattle.machine_steps.specs.Threads.{performs_call, has_calls, is_live, thread_acts}
+use Rattle.machine_steps.specs.Calls.{NextCall, has_calls, queued, scripted, queued_call, performs}
+use Rattle.machine_steps.specs.ThreadRules.{ThreadRule, Performs, is_live, next_rule}
+use Rattle.machine_steps.specs.Threads.{thread_acts}
 
 -- ---- the machine's own steps
 
@@ -59,47 +62,54 @@ inits = Changes (SetsPhase phases.Live) ∷ Changes (MakesThread (record { 0 = 3
 -- VMDeath is raised once every thread has ended, and then the machine is dead
 abbrev pub live_acts : Bool → Bool → Option (List Act)
 live_acts true all_ended = Some (Changes (SetsPhase phases.Dead) ∷ [])
-live_acts false true = Some (Changes Dies ∷ Notes Died ∷ raises VMDeath ∷ [])
+live_acts false true = Some (Changes MarksDeath ∷ Notes Died ∷ raises VMDeath ∷ [])
 live_acts false false = None
 
 abbrev pub phase_acts : Core → Phase → Option (List Act)
 phase_acts core phases.OnLoad = Some starts
 phase_acts core phases.Primordial = None
 phase_acts core phases.Start = Some inits
-phase_acts core phases.Live = live_acts core.died (list_all has_ended core.threads)
+phase_acts core phases.Live = live_acts core.death_raised (list_all has_ended core.threads)
 phase_acts core phases.Dead = None
 
--- a call that waits for it comes first
-abbrev pub machine_acts : Setting → State → Option (List Act)
-machine_acts setting s = if has_calls s.core Vm then performs_call setting s Vm (queue_of s.core Vm) else phase_acts s.core s.core.phase
+-- ---- the call that an actor's next step performs, if it performs one
 
--- ---- the steps of an agent
+-- of a thread whose next step goes by this rule
+abbrev pub call_of_rule : ThreadNo → ThreadRule → Option NextCall
+call_of_rule t (Performs p) = Some (queued (Thread t) p)
+call_of_rule t _ = None
 
--- in phase Live, before VMDeath, while no call waits for the machine and its environment isn't disposed
+-- An agent has steps in phase Live, before VMDeath, while no call waits for the machine and its environment isn't disposed.
 abbrev pub may_script : State → EnvNo → Bool
-may_script s env = is_live s.core.phase && not s.core.died && not (has_calls s.core Vm) && not (is_disposed s.trace env)
+may_script s env = is_live s.core.phase && not s.core.death_raised && not (has_calls s.core Vm) && not (is_disposed s.trace env)
 
 -- the next call of its script, once its log has so many lines
-abbrev pub script_call : Setting → State → EnvNo → ScriptCall → Option (List Act)
-script_call setting s env c =
-    if nat_le c.at (length (log setting.job s.trace env)) then Some (Changes (TakesScript env) ∷ setting.answers s env c.call (Agent env)) else None
+abbrev pub when_logged : World → State → EnvNo → ScriptCall → Option NextCall
+when_logged w s env c = if nat_le c.at (length (log w.job s.trace env)) then Some (scripted env c.call) else None
 
-abbrev pub script_acts : Setting → State → EnvNo → jobs.Agent → Option (List Act)
-script_acts setting s env agent = counted agent.script (script_place s.core env + 1) >>= script_call setting s env
+abbrev pub script_call : World → State → EnvNo → jobs.Agent → Option NextCall
+script_call w s env agent = counted agent.script (script_place s.core env + 1) >>= when_logged w s env
 
-abbrev pub agent_acts : Setting → State → EnvNo → jobs.Agent → Option (List Act)
-agent_acts setting s env agent =
-    if may_script s env
-    then (if has_calls s.core (Agent env) then performs_call setting s (Agent env) (queue_of s.core (Agent env)) else script_acts setting s env agent)
-    else None
+-- one that waits comes first
+abbrev pub agent_call : World → State → EnvNo → jobs.Agent → Option NextCall
+agent_call w s env agent = if may_script s env then option_or (queued_call s.core (Agent env)) (script_call w s env agent) else None
 
--- ---- every actor
+abbrev pub next_call : World → State → Actor → Option NextCall
+next_call w s Vm = queued_call s.core Vm
+next_call w s (Thread t) = next_rule s t >>= call_of_rule t
+next_call w s (Agent env) = agent_at w.job env >>= agent_call w s env
 
--- the acts of an actor's next step; None where it isn't ready
-abbrev pub next_acts : Setting → State → Actor → Option (List Act)
-next_acts setting s Vm = machine_acts setting s
-next_acts setting s (Thread t) = thread_acts setting s (classes_now setting s) t
-next_acts setting s (Agent env) = agent_at setting.job env >>= agent_acts setting s env
+-- ---- the acts of an actor's next step; None where it isn't ready
 
-abbrev pub is_ready : Setting → State → Actor → Bool
-is_ready setting s actor = is_some (next_acts setting s actor)
+-- of the machine, where this call waits for it or none does
+abbrev pub machine_acts : World → State → Option NextCall → Option (List Act)
+machine_acts w s (Some c) = Some (performs w s Vm c)
+machine_acts w s None = phase_acts s.core s.core.phase
+
+abbrev pub next_acts : World → State → Actor → Option (List Act)
+next_acts w s Vm = machine_acts w s (next_call w s Vm)
+next_acts w s (Thread t) = thread_acts w s (classes_now w s) t
+next_acts w s (Agent env) = option_map (performs w s (Agent env)) (next_call w s (Agent env))
+
+abbrev pub is_ready : World → State → Actor → Bool
+is_ready w s actor = is_some (next_acts w s actor)

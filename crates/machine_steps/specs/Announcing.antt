@@ -15,7 +15,7 @@ use Rattle.machine_state.specs.Places.{has_breakpoint, is_watched}
 use Rattle.machine_state.specs.Obsolete.{is_obsolete}
 use Rattle.machine_state.specs.Acts.{State, Act, Changes, SetsTop, raises}
 use Rattle.instruction_effect.specs.Fields.{accessed_field, modified_field}
-use Rattle.machine_steps.specs.Settings.{Setting}
+use Rattle.machine_steps.specs.World.{World}
 use Rattle.machine_steps.specs.Throwing.{method_of, place_of, class_name_of}
 use Rattle.machine_steps.specs.Sites.{Stop}
 
@@ -35,10 +35,10 @@ entry_events classes core t f No = []
 entry_events classes core t f Yes = []
 
 -- an obsolete frame meets no breakpoint
-abbrev pub break_events : Setting → State → List Class → ThreadNo → MethodFrame → List Event
-break_events setting s classes t f =
+abbrev pub break_events : World → State → List Class → ThreadNo → MethodFrame → List Event
+break_events w s classes t f =
     let place = place_of classes f in
-    if has_breakpoint s.trace place && not (is_obsolete setting.job setting.turns s.trace s.core.classes f) then Breakpoint t place ∷ [] else []
+    if has_breakpoint s.trace place && not (is_obsolete w.job w.turns s.trace s.core.classes f) then Breakpoint t place ∷ [] else []
 
 -- the instruction's field is watched, and resolves without loading a class
 abbrev pub if_watched : Trace → EventKind → (FieldName → Event) → Option FieldName → List Event
@@ -51,15 +51,15 @@ access_events trace t place (Some stop) =
     if_watched trace kinds.FieldAccess (FieldAccess t place) (accessed_field stop.site stop.instr)
     ++ if_watched trace kinds.FieldModification (FieldModification t place) (modified_field stop.site stop.instr)
 
-abbrev pub pre_events : Setting → State → List Class → ThreadNo → MethodFrame → Option Stop → List Event
-pre_events setting s classes t f stop =
+abbrev pub pre_events : World → State → List Class → ThreadNo → MethodFrame → Option Stop → List Event
+pre_events w s classes t f stop =
     entry_events classes s.core t f f.announced
-    ++ SingleStep t (place_of classes f) ∷ break_events setting s classes t f ++ access_events s.trace t (place_of classes f) stop
+    ++ SingleStep t (place_of classes f) ∷ break_events w s classes t f ++ access_events s.trace t (place_of classes f) stop
 
 abbrev pub announced : MethodFrame → MethodFrame
 announced f = record f { announced = Yes }
 
 -- the acts that announce the instruction of a frame; none where it is announced already
-abbrev pub announcing : Setting → State → List Class → ThreadNo → MethodFrame → Option Stop → Announced → List Act
-announcing setting s classes t f stop Yes = []
-announcing setting s classes t f stop _ = Changes (SetsTop t (announced f)) ∷ map raises (pre_events setting s classes t f stop)
+abbrev pub announcing : World → State → List Class → ThreadNo → MethodFrame → Option Stop → Announced → List Act
+announcing w s classes t f stop Yes = []
+announcing w s classes t f stop _ = Changes (SetsTop t (announced f)) ∷ map raises (pre_events w s classes t f stop)

@@ -13,7 +13,7 @@ use Rattle.machine_state.specs.Core as core
 use Rattle.machine_state.specs.Trace.{Trace}
 use Rattle.machine_state.specs.Logs.{log}
 use Rattle.machine_state.specs.Acts.{State}
-use Rattle.machine_steps.specs.Settings.{Setting}
+use Rattle.machine_steps.specs.World.{World}
 use Rattle.machine_steps.specs.Actors.{is_ready}
 
 -- ---- all actors, in the order in which they are picked
@@ -52,22 +52,22 @@ abbrev pub is_dead : Phase → Bool
 is_dead phases.Dead = true
 is_dead _ = false
 
-abbrev pub any_ready : Setting → State → Bool
-any_ready setting s = list_any (is_ready setting s) (actors setting.job s)
+abbrev pub any_ready : World → State → Bool
+any_ready w s = list_any (is_ready w s) (actors w.job s)
 
 -- the first of these that holds
-abbrev pub end : Setting → State → Option End
-end setting s =
+abbrev pub end : World → State → Option End
+end w s =
     if is_dead s.core.phase then Some ends.Dead
-    else if nat_le setting.job.limits.steps s.steps then Some ends.StepLimit
-    else if is_logged_out setting.job s.trace then Some ends.LineLimit
-    else if nat_le setting.job.limits.output (length s.core.output) then Some ends.OutputLimit
-    else if any_ready setting s then None
+    else if nat_le w.job.limits.steps s.steps then Some ends.StepLimit
+    else if is_logged_out w.job s.trace then Some ends.LineLimit
+    else if nat_le w.job.limits.output (length s.core.output) then Some ends.OutputLimit
+    else if any_ready w s then None
     else Some ends.Stuck
 
 -- After an end no actor is enabled.
-abbrev pub is_enabled : Setting → State → Actor → Bool
-is_enabled setting s actor = is_none (end setting s) && is_ready setting s actor
+abbrev pub is_enabled : World → State → Actor → Bool
+is_enabled w s actor = is_none (end w s) && is_ready w s actor
 
-abbrev pub IsEnabled : Setting → State → Actor → Type 0
-IsEnabled setting s actor = IsTrue (is_enabled setting s actor)
+abbrev pub IsEnabled : World → State → Actor → Type 0
+IsEnabled w s actor = IsTrue (is_enabled w s actor)

@@ -20,8 +20,8 @@ use Rattle.java_heap.specs.declared.object.Content.TheVariants.{Literal}
 use Rattle.java_heap.specs.declared.object.TheConstants.{STRING}
 use Rattle.java_heap.specs.Heaps.{HeapValue, literal_of, next_number}
 use Rattle.java_heap.specs.Objects.{fresh}
-use Rattle.link_versions.specs.declared.class.InitState.{InitState}
-use Rattle.link_versions.specs.declared.class.InitState.TheVariants as states
+use Rattle.ti_ids.specs.declared.state.InitState.{InitState}
+use Rattle.ti_ids.specs.declared.state.InitState.TheVariants as states
 use Rattle.link_versions.specs.Classes.{Class, class_at as class_numbered, version_at, newest_version, is_interface}
 use Rattle.link_versions.specs.Members.{declared_method, method_has}
 use Rattle.machine_state.specs.Core.{Core, MethodFrame, frames_at, class_of_number}
@@ -81,8 +81,9 @@ with_string heap units = record heap { objects = heap.objects ++ fresh STRING (L
 -- A String that isn't there is made, as far as the heap has room; without room nothing more is done.
 abbrev pub set_to_new : ThreadNo → ClassNo → ℕ → List ℕ → HeapValue → Constants → Constants
 set_to_new t n place units heap rest =
+    let making = makes_announced t heap STRING (Literal units) string_name in
     if heap_has_room heap (Literal units)
-    then record (set_to n place (string_at (next_number heap)) rest) { makes = makes_announced t heap STRING (Literal units) string_name ++ rest.makes }
+    then record (set_to n place (string_at (next_number heap)) rest) { makes = making ++ rest.makes }
     else record no_constants { full = true }
 
 abbrev pub constants_made : ThreadNo → ClassNo → HeapValue → List (ℕ × Constant) → Constants

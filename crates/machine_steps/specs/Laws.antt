@@ -1,46 +1,50 @@
--- The laws of the steps: what holds of every setting, state and schedule.
-use Rattle.std.specs.Prelude.{◌≡◌, ◌↔◌, ℕ, ◌+◌, ◌<◌, ◌^◌, List, ◌++◌, length, map, slice_get, Option, Some, None, true, false, bytes_eq}
-use Rattle.std.specs.List.{AllByRecursion, IsDistinct}
+-- The laws of the steps: what holds of every world, state and schedule.
+use Rattle.std.specs.Prelude.{◌≡◌, ◌↔◌, ℕ, ◌+◌, ◌<◌, ◌≤◌, ◌^◌, List, ◌∷◌, ◌++◌, length, map, slice_get, Option, Some, None, true, false, bytes_eq}
+use Rattle.std.specs.List.{AllByRecursion, IsDistinct, list_any}
 use Rattle.ti_ids.specs.declared.number.ThreadNo.{ThreadNo}
+use Rattle.ti_ids.specs.declared.number.ClassNo.{ClassNo}
 use Rattle.ti_ids.specs.declared.actor.Actor.{Actor}
 use Rattle.ti_ids.specs.declared.actor.End.{End}
 use Rattle.jv_names.specs.Names.{Name}
 use Rattle.link_versions.specs.Classes.{Class, number_of}
 use Rattle.report_text.specs.Named.{AllNamed}
 use Rattle.report_text.specs.Stated.{stated}
-use Rattle.machine_state.specs.Core.{Core, CoreClass, MethodFrame, StackFrame, Thread, failure_of, frames_at}
+use Rattle.machine_state.specs.Core.{Core, CoreClass, MethodFrame, StackFrame, Thread, failure_of, frames_at, most_threads}
+use Rattle.machine_state.specs.Linked.{array_type}
 use Rattle.thread_frames.specs.declared.frame.StackEntry.TheVariants.{Java, Init}
 use Rattle.machine_state.specs.FrameCode.{code}
 use Rattle.machine_state.specs.Laws.{IsBorn}
 use Rattle.machine_state.specs.Trace.{Entry, Trace}
 use Rattle.machine_state.specs.Acts.{State}
-use Rattle.class_tree.specs.Trees.{Tree}
-use Rattle.type_frames.specs.Hierarchies.{Known}
-use Rattle.type_frames.specs.TypeChecks.{ClassPasses}
-use Rattle.machine_steps.specs.Checking.{class_passes}
-use Rattle.machine_steps.specs.Settings.{Setting}
+use Rattle.machine_steps.specs.World.{World}
 use Rattle.machine_steps.specs.Loading.{next_load, Loads}
-use Rattle.machine_steps.specs.Ends.{end, is_enabled}
-use Rattle.machine_steps.specs.Actors.{is_ready}
-use Rattle.machine_steps.specs.Replay.{step, state, Runs}
+use Rattle.machine_steps.specs.Ends.{end, is_enabled, IsEnabled}
+use Rattle.machine_steps.specs.Calls.{NextCall, performs}
+use Rattle.machine_steps.specs.Actors.{next_call, next_acts, is_ready}
+use Rattle.machine_steps.specs.Replay.{step, run_from, state, CanRun}
 use Rattle.machine_steps.specs.Picks.{picked}
 use Rattle.machine_steps.specs.Reports.{report}
+use Rattle.machine_steps.specs.Bounds.{IsBounded}
 
 -- ---- ends
 
 -- After an end no actor is enabled.
 abbrev pub NoneAfterEnd : Type 0
-NoneAfterEnd = (setting : Setting) (s : State) (e : End) (actor : Actor) → end setting s ≡ Some e → is_enabled setting s actor ≡ false
+NoneAfterEnd = (w : World) (s : State) (e : End) (actor : Actor) → end w s ≡ Some e → is_enabled w s actor ≡ false
 
 -- Where there is no end, a step is left.
 abbrev pub HasStepLeft : Type 0
-HasStepLeft = (setting : Setting) (s : State) → end setting s ≡ None → s.steps < setting.job.limits.steps
+HasStepLeft = (w : World) (s : State) → end w s ≡ None → s.steps < w.job.limits.steps
+
+-- Where there is no end, some actor is enabled.
+abbrev pub SomeoneIsEnabled : Type 0
+SomeoneIsEnabled = (w : World) (s : State) → end w s ≡ None → (actor : Actor) × IsEnabled w s actor
 
 -- ---- steps
 
 -- A step of an actor that is ready adds one to the number of steps.
 abbrev pub CountsOne : Type 0
-CountsOne = (setting : Setting) (s : State) (actor : Actor) → is_ready setting s actor ≡ true → (step setting s actor).steps ≡ s.steps + 1
+CountsOne = (w : World) (s : State) (actor : Actor) → is_ready w s actor ≡ true → (step w s actor).steps ≡ s.steps + 1
 
 -- an entry has this step's number and its actor
 abbrev pub IsOfStep : State → Actor → Entry → Type 0
@@ -54,7 +58,12 @@ pub record GrowsBy (s : State) (actor : Actor) (after : State) : Type 0 where
 
 -- It adds its records to the end of the trace, each with this step's number and its actor.
 abbrev pub AddsRecords : Type 0
-AddsRecords = (setting : Setting) (s : State) (actor : Actor) → GrowsBy s actor (step setting s actor)
+AddsRecords = (w : World) (s : State) (actor : Actor) → GrowsBy s actor (step w s actor)
+
+-- The next call of an actor, if it has one, is what its next step performs.
+abbrev pub PerformsNextCall : Type 0
+PerformsNextCall =
+    (w : World) (s : State) (actor : Actor) (c : NextCall) → next_call w s actor ≡ Some c → next_acts w s actor ≡ Some (performs w s actor c)
 
 -- ---- what only grows
 
@@ -64,11 +73,18 @@ pub record GoesOn {A : Type 0} (before after : List A) : Type 0 where
   pub grown : after ≡ before ++ more
 
 abbrev pub OutputGrows : Type 0
-OutputGrows = (setting : Setting) (s : State) (actor : Actor) → GoesOn s.core.output (step setting s actor).core.output
+OutputGrows = (w : World) (s : State) (actor : Actor) → GoesOn s.core.output (step w s actor).core.output
 
 -- Objects keep their numbers: the classes of those that there were are those of the first objects there are.
+abbrev pub classes_of_objects : State → List ClassNo
+classes_of_objects s = map (λ o. o.class) s.core.heap.objects
+
 abbrev pub ObjectsStay : Type 0
-ObjectsStay = (setting : Setting) (s : State) (actor : Actor) → GoesOn (map (λ o. o.class) s.core.heap.objects) (map (λ o. o.class) (step setting s actor).core.heap.objects)
+ObjectsStay = (w : World) (s : State) (actor : Actor) → GoesOn (classes_of_objects s) (classes_of_objects (step w s actor))
+
+-- After every schedule there are no more threads than may be made.
+abbrev pub FewThreads : Type 0
+FewThreads = (w : World) (schedule : List Actor) → length (state w schedule).core.threads ≤ most_threads
 
 -- ---- classes
 
@@ -78,11 +94,24 @@ pub record IsNew (core : Core) (classes : List Class) (name : Name) : Type 0 whe
   pub untried : failure_of core name ≡ None
 
 abbrev pub LoadsOnce : Type 0
-LoadsOnce = (setting : Setting) (core : Core) (classes : List Class) (wanted name : Name) → next_load setting core classes wanted ≡ Loads name → IsNew core classes name
+LoadsOnce =
+    (w : World) (core : Core) (classes : List Class) (wanted name : Name) → next_load w core classes wanted ≡ Loads name → IsNew core classes name
+
+-- A class isn't there, and its load has failed with this class of error; an array class has no load.
+pub record IsFailed (core : Core) (name error : Name) : Type 0 where
+  pub absent : list_any (bytes_eq name) (map (λ c. c.name) core.classes) ≡ false
+  pub failed : failure_of core name ≡ Some error
+  pub plain : array_type name ≡ None
+
+-- A class whose load has failed stays so after every schedule: it is never loaded, and its error stays.
+abbrev pub StaysFailed : Type 0
+StaysFailed =
+    (w : World) (s : State) (schedule : List Actor) (name error : Name) → IsFailed s.core name error
+    → IsFailed (run_from w s schedule).core name error
 
 -- After every schedule no two classes have the same name: none was loaded twice.
 abbrev pub NamesDiffer : Type 0
-NamesDiffer = (setting : Setting) (schedule : List Actor) → IsDistinct bytes_eq (map (λ c. c.name) (state setting schedule).core.classes)
+NamesDiffer = (w : World) (schedule : List Actor) → IsDistinct bytes_eq (map (λ c. c.name) (state w schedule).core.classes)
 
 -- The names of the classes that there were stay in their places: new ones come before them.
 pub record ComesBefore (before after : List Name) : Type 0 where
@@ -90,13 +119,8 @@ pub record ComesBefore (before after : List Name) : Type 0 where
   pub grown : after ≡ new ++ before
 
 abbrev pub ClassesStay : Type 0
-ClassesStay = (setting : Setting) (s : State) (actor : Actor) → ComesBefore (map (λ c. c.name) s.core.classes) (map (λ c. c.name) (step setting s actor).core.classes)
-
--- ---- the type check
-
--- The answer that the link step goes by is that of the specification's type checker.
-abbrev pub ChecksTypes : Type 0
-ChecksTypes = (h : Known) (t : Tree) → (class_passes h t ≡ true) ↔ ClassPasses h t
+ClassesStay =
+    (w : World) (s : State) (actor : Actor) → ComesBefore (map (λ c. c.name) s.core.classes) (map (λ c. c.name) (step w s actor).core.classes)
 
 -- ---- frames
 
@@ -110,24 +134,38 @@ AreBorn trace classes threads = AllByRecursion (λ t. AllByRecursion (WasBorn tr
 
 -- In the state after every schedule every frame was born by now, of classes that are there.
 abbrev pub FramesAreBorn : Type 0
-FramesAreBorn = (setting : Setting) (schedule : List Actor) → let s = state setting schedule in AreBorn s.trace s.core.classes s.core.threads
+FramesAreBorn = (w : World) (schedule : List Actor) → let s = state w schedule in AreBorn s.trace s.core.classes s.core.threads
 
 -- After every schedule, a step changes the code of no frame that a thread has.
 abbrev pub CodeStays : Type 0
-CodeStays = (setting : Setting) (schedule : List Actor) (actor : Actor) (t : ThreadNo) (place : ℕ) (f : MethodFrame)
-    → let s = state setting schedule in slice_get (frames_at s.core t) place ≡ Some (Java f)
-    → code setting.job setting.turns (step setting s actor).trace (step setting s actor).core.classes f ≡ code setting.job setting.turns s.trace s.core.classes f
+CodeStays = (w : World) (schedule : List Actor) (actor : Actor) (t : ThreadNo) (place : ℕ) (f : MethodFrame)
+    → let s = state w schedule in slice_get (frames_at s.core t) place ≡ Some (Java f)
+    → let after = step w s actor in code w.job w.turns after.trace after.core.classes f ≡ code w.job w.turns s.trace s.core.classes f
 
 -- ---- schedules
 
--- The picked schedule can be run.
-abbrev pub PickedRuns : Type 0
-PickedRuns = (setting : Setting) → Runs setting (picked setting)
+-- The picked schedule can be run, whatever the slice.
+abbrev pub PickedCanRun : Type 0
+PickedCanRun = (slice : ℕ) (w : World) → CanRun w (picked slice w)
 
 -- It stops at an end.
 abbrev pub PickedEnds : Type 0
-PickedEnds = (setting : Setting) → end setting (state setting (picked setting)) ≡ None → ⊥
+PickedEnds = (slice : ℕ) (w : World) → end w (state w (picked slice w)) ≡ None → ⊥
 
--- The report of a schedule states it.
+-- A schedule that can be run is no longer than the job's limit of steps.
+abbrev pub FitsLimit : Type 0
+FitsLimit = (w : World) (schedule : List Actor) → CanRun w schedule → length schedule ≤ w.job.limits.steps
+
+-- No state before its last one has an end.
+abbrev pub NoEndBefore : Type 0
+NoEndBefore = (w : World) (front : List Actor) (actor : Actor) (back : List Actor) → CanRun w (front ++ actor ∷ back) → end w (state w front) ≡ None
+
+-- The report of a schedule states it, where a line can name the actors and the number of steps.
+abbrev pub StatesNamed : Type 0
+StatesNamed =
+    (w : World) (schedule : List Actor) (e : Option End) → AllNamed schedule → length schedule < 10 ^ 9 → stated (report w schedule e) ≡ Some schedule
+
+-- The report of a schedule of an accepted job that can be run states it.
 abbrev pub StatesSchedule : Type 0
-StatesSchedule = (setting : Setting) (schedule : List Actor) (e : Option End) → AllNamed schedule → length schedule < 10 ^ 9 → stated (report setting schedule e) ≡ Some schedule
+StatesSchedule =
+    (w : World) (schedule : List Actor) (e : Option End) → IsBounded w.job → CanRun w schedule → stated (report w schedule e) ≡ Some schedule

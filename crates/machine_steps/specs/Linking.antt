@@ -1,17 +1,24 @@
 -- The linking of classes (JVM specification 5.4): what a need to link a class does next. Each step links one class.
-use Rattle.std.specs.Prelude.{◌==◌, List, [], ◌∷◌, ◌++◌, length, find, Option, Some, None, Bool, true, false, codes, if◌then◌else◌}
+use Rattle.std.specs.Prelude.{◌==◌, List, [], ◌∷◌, ◌++◌, length, map, find, Option, Some, None, Bool, true, false, codes, if◌then◌else◌}
+use Rattle.std.specs.List.{filter_map}
 use Rattle.std.specs.Option.{option_map_or}
 use Rattle.ti_ids.specs.declared.number.ThreadNo.{ThreadNo}
 use Rattle.ti_ids.specs.declared.number.ClassNo.{ClassNo}
 use Rattle.jv_names.specs.Names.{Name}
-use Rattle.link_versions.specs.declared.class.InitState.{InitState}
-use Rattle.link_versions.specs.declared.class.InitState.TheVariants as states
+use Rattle.base_set.specs.BaseSet.{base_set}
+use Rattle.base_set.specs.BaseTrees.{base_tree}
+use Rattle.type_frames.specs.Hierarchies.{Known}
+use Rattle.type_frames.specs.Stated.{stated}
+use Rattle.ti_ids.specs.declared.state.InitState.{InitState}
+use Rattle.ti_ids.specs.declared.state.InitState.TheVariants as states
 use Rattle.link_versions.specs.Classes.{Class, class_at as class_numbered, version_at, newest_version}
+use Rattle.type_frames.specs.Answering.{class_passes}
+use Rattle.machine_state.specs.Jobs.{Job}
+use Rattle.machine_state.specs.Linked.{tree_of}
 use Rattle.machine_state.specs.Core.{failure_of}
 use Rattle.machine_state.specs.Trace.{ClassPrepare}
 use Rattle.machine_state.specs.Acts.{State, Act, Changes, SetsClass, Fails, raises}
-use Rattle.machine_steps.specs.Settings.{Setting, hierarchy}
-use Rattle.machine_steps.specs.Checking.{class_passes}
+use Rattle.machine_steps.specs.World.{World}
 use Rattle.machine_steps.specs.Throwing.{name_of, throws_new}
 
 -- ---- which class comes next
@@ -42,25 +49,29 @@ next_link (c ∷ older) n =
 
 -- ---- the link step
 
+-- The classes that type checks know: those of the base set and of the files, as they were given (section 4.10.1).
+abbrev pub hierarchy : Job → Known
+hierarchy job = stated (map base_tree base_set ++ filter_map (λ f. tree_of f.bytes) job.files)
+
 abbrev pub verify_name : Name
 verify_name = codes "java/lang/VerifyError"
 
 -- the type check of the class's newest version
-abbrev pub passes_check : Setting → List Class → ClassNo → Bool
-passes_check setting classes n = option_map_or (class_passes (hierarchy setting.job)) (version_at classes (newest_version classes n)) false
+abbrev pub passes_check : World → List Class → ClassNo → Bool
+passes_check w classes n = option_map_or (class_passes (hierarchy w.job)) (version_at classes (newest_version classes n)) false
 
 -- a type check that has failed fails again
 abbrev pub links_checked : State → List Class → ThreadNo → ClassNo → Name → Bool → List Act
 links_checked s classes t n name true = Changes (SetsClass n states.Linked) ∷ raises (ClassPrepare t name) ∷ []
 links_checked s classes t n name false = throws_new classes s.core t (Changes (Fails name verify_name) ∷ []) verify_name
 
-abbrev pub links_in : Setting → State → List Class → ThreadNo → ClassNo → Name → Option Name → List Act
-links_in setting s classes t n name (Some error) = throws_new classes s.core t [] error
-links_in setting s classes t n name None = links_checked s classes t n name (passes_check setting classes n)
+abbrev pub links_in : World → State → List Class → ThreadNo → ClassNo → Name → Option Name → List Act
+links_in w s classes t n name (Some error) = throws_new classes s.core t [] error
+links_in w s classes t n name None = links_checked s classes t n name (passes_check w classes n)
 
-abbrev pub links : Setting → State → List Class → ThreadNo → ClassNo → List Act
-links setting s classes t n = let name = name_of classes n in links_in setting s classes t n name (failure_of s.core name)
+abbrev pub links : World → State → List Class → ThreadNo → ClassNo → List Act
+links w s classes t n = let name = name_of classes n in links_in w s classes t n name (failure_of s.core name)
 
 -- the step of a need to link a class
-abbrev pub link_step : Setting → State → List Class → ThreadNo → ClassNo → List Act
-link_step setting s classes t n = links setting s classes t (next_link classes n)
+abbrev pub link_step : World → State → List Class → ThreadNo → ClassNo → List Act
+link_step w s classes t n = links w s classes t (next_link classes n)

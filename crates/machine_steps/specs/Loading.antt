@@ -10,16 +10,17 @@ use Rattle.class_tree.specs.declared.access.Flag.TheVariants as flags
 use Rattle.class_tree.specs.Flags.{has_flag}
 use Rattle.class_tree.specs.Trees.{Tree}
 use Rattle.class_tree.specs.Tree.{class_at}
-use Rattle.link_versions.specs.declared.class.InitState.TheVariants as states
+use Rattle.ti_ids.specs.declared.state.InitState.TheVariants as states
 use Rattle.link_versions.specs.Classes.{Class, number_of}
+use Rattle.transform_chain.specs.declared.folded.Turn.{Turn}
+use Rattle.transform_chain.specs.Turns.{fold_from}
 use Rattle.machine_state.specs.Jobs.{Job, bytes_of}
 use Rattle.machine_state.specs.Core.{Core, failure_of}
 use Rattle.machine_state.specs.Trace.{Turned, Loaded, LoadFailed, ClassLoad}
-use Rattle.machine_state.specs.Chains.{Transformer, chain}
-use Rattle.machine_state.specs.Versions.{Turns, turned, folded}
+use Rattle.machine_state.specs.Chains.{chain}
 use Rattle.machine_state.specs.Linked.{tree_of, base_tree_of}
 use Rattle.machine_state.specs.Acts.{State, Act, Changes, Notes, AddsClass, Fails, raises}
-use Rattle.machine_steps.specs.Settings.{Setting}
+use Rattle.machine_steps.specs.World.{World}
 use Rattle.machine_steps.specs.Throwing.{throws_new}
 
 -- ---- classes as their files state them
@@ -110,23 +111,25 @@ load_of_failed (Some error) otherwise = Repeats error
 load_of_failed None otherwise = otherwise
 
 -- so many levels of supertypes at most
-abbrev pub load_within : Setting → Core → List Class → ℕ → Name → Load
-load_within setting core classes zero name = Met
-load_within setting core classes (suc n) name =
+abbrev pub load_within : World → Core → List Class → ℕ → Name → Load
+load_within w core classes zero name = Met
+load_within w core classes (suc n) name =
+    let supers = map (load_within w core classes n) (supers_of w.job name) in
     if is_some (number_of classes name) then Met
-    else load_of_failed (failure_of core name) (load_of_given setting.job name (given_tree setting.job name) (map (load_within setting core classes n) (supers_of setting.job name)))
+    else load_of_failed (failure_of core name) (load_of_given w.job name (given_tree w.job name) supers)
 
-abbrev pub next_load : Setting → Core → List Class → Name → Load
-next_load setting core classes name = load_within setting core classes (suc (suc (length setting.job.files))) name
+abbrev pub next_load : World → Core → List Class → Name → Load
+next_load w core classes name = load_within w core classes (suc (suc (length w.job.files))) name
 
 -- ---- the load step
 
--- the records of the turns of these transformers at a class, of which the first has this place among so many
-abbrev pub turn_notes : Turns → Name → ℕ → ℕ → List ℕ → List Transformer → List Act
-turn_notes turns class k n bytes [] = []
-turn_notes turns class k n bytes (t ∷ ts) =
-    let after = turned turns class bytes t in
-    Notes (Turned t.environment class t.set k n (not (bytes_eq bytes after))) ∷ turn_notes turns class (k + 1) n after ts
+-- the records of turns at a class, of which the first has this place among so many
+abbrev pub turns_from : Name → ℕ → ℕ → List Turn → List Act
+turns_from class k n [] = []
+turns_from class k n (turn ∷ turns) = Notes (Turned turn.env class turn.set k n turn.changed) ∷ turns_from class (k + 1) n turns
+
+abbrev pub turn_notes : Name → List Turn → List Act
+turn_notes class turns = turns_from class 1 (length turns) turns
 
 -- what was made of a class's bytes has its name, its superclass and its interfaces, in their order
 abbrev pub same_names : List Name → List Name → Bool
@@ -147,22 +150,23 @@ bytes_given job name = unwrap_or (bytes_of job name) []
 
 -- the class is loaded, or is refused as it was made
 abbrev pub load_ends : Core → List Class → ThreadNo → Name → List ℕ → List Act → Bool → List Act
-load_ends core classes t name bytes turns true = turns ++ Notes (Loaded name bytes) ∷ Changes (AddsClass name states.Loaded) ∷ raises (ClassLoad t name) ∷ []
-load_ends core classes t name bytes turns false =
+load_ends core classes t name bytes notes true =
+    notes ++ Notes (Loaded name bytes) ∷ Changes (AddsClass name states.Loaded) ∷ raises (ClassLoad t name) ∷ []
+load_ends core classes t name bytes notes false =
     let error = codes "java/lang/ClassFormatError" in
-    throws_new classes core t (turns ++ Notes (LoadFailed name error) ∷ Changes (Fails name error) ∷ []) error
+    throws_new classes core t (notes ++ Notes (LoadFailed name error) ∷ Changes (Fails name error) ∷ []) error
 
 -- the turns of all active transformers at its file's bytes, one after the other, and what comes of them
-abbrev pub loads : Setting → State → List Class → ThreadNo → Name → List Act
-loads setting s classes t name =
-    let bytes = bytes_given setting.job name in
-    let ts = chain setting.job s.trace (actors.Thread t) in
-    let made = folded setting.turns name ts bytes in
-    load_ends s.core classes t name bytes (turn_notes setting.turns name 1 (length ts) bytes ts) (is_accepted name (tree_of bytes) (tree_of made))
+abbrev pub loads : World → State → List Class → ThreadNo → Name → List Act
+loads w s classes t name =
+    let bytes = bytes_given w.job name in
+    let all = fold_from name 1 (chain w.job w.turns s.trace (actors.Thread t)) bytes in
+    load_ends s.core classes t name bytes (turn_notes name all.turns) (is_accepted name (tree_of bytes) (tree_of all.made))
 
 -- the step of a need to load a class; None where it is met
-abbrev pub load_step : Setting → State → List Class → ThreadNo → Load → Option (List Act)
-load_step setting s classes t Met = None
-load_step setting s classes t (Loads name) = Some (loads setting s classes t name)
-load_step setting s classes t (Refuses name error) = Some (throws_new classes s.core t (Notes (LoadFailed name error) ∷ Changes (Fails name error) ∷ []) error)
-load_step setting s classes t (Repeats error) = Some (throws_new classes s.core t [] error)
+abbrev pub load_step : World → State → List Class → ThreadNo → Load → Option (List Act)
+load_step w s classes t Met = None
+load_step w s classes t (Loads name) = Some (loads w s classes t name)
+load_step w s classes t (Refuses name error) =
+    Some (throws_new classes s.core t (Notes (LoadFailed name error) ∷ Changes (Fails name error) ∷ []) error)
+load_step w s classes t (Repeats error) = Some (throws_new classes s.core t [] error)

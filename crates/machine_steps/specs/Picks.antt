@@ -1,10 +1,11 @@
--- The schedule of one worker: an actor goes on for as many steps in a row as the slice allows, and then the next one has its turn.
+-- The schedule of one worker: an actor goes on for as many steps in a row as the slice allows, and then the next one has its turn. The
+-- slice is the job's, and of the run's world nothing but this goes by it.
 use Rattle.std.specs.Prelude.{ℕ, zero, suc, ◌+◌, List, [], ◌∷◌, ◌++◌, Option, Some, None, option_map, ◌&&◌, nat_lt, if◌then◌else◌, find}
 use Rattle.ti_ids.specs.declared.actor.Actor.{Actor}
 use Rattle.ti_ids.specs.declared.actor.Actor.TheVariants.{Vm}
 use Rattle.ti_ids.specs.Actors.{same_actor}
 use Rattle.machine_state.specs.Acts.{State}
-use Rattle.machine_steps.specs.Settings.{Setting}
+use Rattle.machine_steps.specs.World.{World}
 use Rattle.machine_steps.specs.Ends.{actors, is_enabled}
 use Rattle.machine_steps.specs.Replay.{step, opening}
 
@@ -23,20 +24,21 @@ abbrev pub round : Actor → List Actor → List Actor
 round actor all = behind actor all ++ up_to actor all
 
 -- the actor that has its turn after another one
-abbrev pub next_actor : Setting → State → Actor → Option Actor
-next_actor setting s current = find (is_enabled setting s) (round current (actors setting.job s))
+abbrev pub next_actor : World → State → Actor → Option Actor
+next_actor w s current = find (is_enabled w s) (round current (actors w.job s))
 
--- the actor that makes the next step, and how many it has made in a row before it
-abbrev pub pick : Setting → State → Actor → ℕ → Option (Actor × ℕ)
-pick setting s current made =
-    if nat_lt made setting.job.limits.slice && is_enabled setting s current then Some (current, made) else option_map (λ actor. (actor, 0)) (next_actor setting s current)
+module _ (slice : ℕ) (w : World) where
+  -- the actor that makes the next step, and how many it has made in a row before it
+  abbrev pub pick : State → Actor → ℕ → Option (Actor × ℕ)
+  pick s current made =
+      if nat_lt made slice && is_enabled w s current then Some (current, made) else option_map (λ actor. (actor, 0)) (next_actor w s current)
 
--- at most so many steps
-abbrev pub picked_from : ℕ → Setting → State → Actor → ℕ → List Actor
-picked_from zero setting s current made = []
-picked_from (suc most) setting s current made =
-    elim (pick setting s current made) [ Some p ↦ p.0 ∷ picked_from most setting (step setting s p.0) p.0 (p.1 + 1) | None ↦ [] ]
+  -- at most so many steps
+  abbrev pub picked_from : ℕ → State → Actor → ℕ → List Actor
+  picked_from zero s current made = []
+  picked_from (suc most) s current made =
+      elim (pick s current made) [ Some p ↦ p.0 ∷ picked_from most (step w s p.0) p.0 (p.1 + 1) | None ↦ [] ]
 
--- up to the end, which comes at the step limit at the latest
-abbrev pub picked : Setting → List Actor
-picked setting = picked_from setting.job.limits.steps setting (opening setting.job) Vm 0
+  -- up to the end, which comes at the step limit at the latest
+  abbrev pub picked : List Actor
+  picked = picked_from w.job.limits.steps (opening w.job) Vm 0

@@ -8,20 +8,20 @@ use Rattle.machine_state.specs.Jobs as jobs
 use Rattle.machine_state.specs.Jobs.{Job}
 use Rattle.machine_state.specs.Core.{Core, Pending}
 use Rattle.machine_state.specs.Acts.{State, Act, stepped}
-use Rattle.machine_steps.specs.Settings.{Setting}
+use Rattle.machine_steps.specs.World.{World}
 use Rattle.machine_steps.specs.Actors.{next_acts}
 use Rattle.machine_steps.specs.Ends.{IsEnabled}
 
 -- ---- one step
 
 -- an actor that isn't ready changes nothing
-abbrev pub step_by : Setting → State → Actor → Option (List Act) → State
-step_by setting s actor None = s
-step_by setting s actor (Some acts) = stepped setting.job actor s acts
+abbrev pub step_by : World → State → Actor → Option (List Act) → State
+step_by w s actor None = s
+step_by w s actor (Some acts) = stepped w.job actor s acts
 
 -- the state after a step of an actor
-abbrev pub step : Setting → State → Actor → State
-step setting s actor = step_by setting s actor (next_acts setting s actor)
+abbrev pub step : World → State → Actor → State
+step w s actor = step_by w s actor (next_acts w s actor)
 
 -- ---- before the first step
 
@@ -37,7 +37,7 @@ load_calls_from n (agent ∷ agents) = pending (record { 0 = n }) agent.load ++ 
 abbrev pub opening_core : Job → Core
 opening_core job = record {
   phase = phases.OnLoad;
-  died = false;
+  death_raised = false;
   classes = [];
   failures = [];
   statics = [];
@@ -54,18 +54,18 @@ opening job = record { core = opening_core job; trace = []; steps = 0 }
 
 -- ---- schedules
 
-abbrev pub run_from : Setting → State → List Actor → State
-run_from setting s [] = s
-run_from setting s (actor ∷ actors) = run_from setting (step setting s actor) actors
+abbrev pub run_from : World → State → List Actor → State
+run_from w s [] = s
+run_from w s (actor ∷ actors) = run_from w (step w s actor) actors
 
 -- the state after a schedule
-abbrev pub state : Setting → List Actor → State
-state setting schedule = run_from setting (opening setting.job) schedule
+abbrev pub state : World → List Actor → State
+state w schedule = run_from w (opening w.job) schedule
 
-abbrev pub RunsFrom : Setting → State → List Actor → Type 0
-RunsFrom setting s [] = Unit {0}
-RunsFrom setting s (actor ∷ actors) = IsEnabled setting s actor × RunsFrom setting (step setting s actor) actors
+abbrev pub CanRunFrom : World → State → List Actor → Type 0
+CanRunFrom w s [] = Unit {0}
+CanRunFrom w s (actor ∷ actors) = IsEnabled w s actor × CanRunFrom w (step w s actor) actors
 
 -- each entry's actor is enabled at its place
-abbrev pub Runs : Setting → List Actor → Type 0
-Runs setting schedule = RunsFrom setting (opening setting.job) schedule
+abbrev pub CanRun : World → List Actor → Type 0
+CanRun w schedule = CanRunFrom w (opening w.job) schedule

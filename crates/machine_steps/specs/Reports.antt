@@ -14,11 +14,13 @@ use Rattle.link_versions.specs.Classes.{Class}
 use Rattle.machine_state.specs.Jobs as jobs
 use Rattle.machine_state.specs.Jobs.{Job}
 use Rattle.machine_state.specs.Core as core
-use Rattle.machine_state.specs.Core.{Core, Activity, Throwing}
+use Rattle.ti_ids.specs.declared.state.Activity.{Activity}
+use Rattle.ti_ids.specs.declared.state.Activity.TheVariants.{Throwing}
+use Rattle.machine_state.specs.Core.{Core}
 use Rattle.machine_state.specs.Trace.{Trace}
 use Rattle.machine_state.specs.Logs.{log}
 use Rattle.machine_state.specs.Acts.{State}
-use Rattle.machine_steps.specs.Settings.{Setting}
+use Rattle.machine_steps.specs.World.{World}
 use Rattle.machine_steps.specs.Sites.{classes_now}
 use Rattle.machine_steps.specs.Throwing.{class_name_of}
 use Rattle.machine_steps.specs.Replay.{state}
@@ -46,21 +48,21 @@ logs_from job trace n (agent ∷ agents) = record { name = agent.name; lines = l
 -- ---- the report
 
 -- what it prints of a state that a schedule has led to
-abbrev pub parts_of : Setting → State → List Actor → Option End → ReportParts
-parts_of setting s schedule end = record {
-  main = setting.job.main;
+abbrev pub parts_of : World → State → List Actor → Option End → ReportParts
+parts_of w s schedule end = record {
+  main = w.job.main;
   runs = runs_of schedule;
   steps = length schedule;
   end = end;
-  threads = map (thread_line (classes_now setting s) s.core) s.core.threads;
+  threads = map (thread_line (classes_now w s) s.core) s.core.threads;
   output = s.core.output;
-  agents = logs_from setting.job s.trace 1 setting.job.agents;
+  agents = logs_from w.job s.trace 1 w.job.agents;
 }
 
 -- the schedule, how the run ended, how its threads stand, its output and its logs
-abbrev pub report_parts : Setting → List Actor → Option End → ReportParts
-report_parts setting schedule end = parts_of setting (state setting schedule) schedule end
+abbrev pub report_parts : World → List Actor → Option End → ReportParts
+report_parts w schedule end = parts_of w (state w schedule) schedule end
 
 -- the report's text
-abbrev pub report : Setting → List Actor → Option End → List ℕ
-report setting schedule end = report_text (report_parts setting schedule end)
+abbrev pub report : World → List Actor → Option End → List ℕ
+report w schedule end = report_text (report_parts w schedule end)

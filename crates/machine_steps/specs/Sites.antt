@@ -10,11 +10,11 @@ use Rattle.machine_state.specs.Linked.{linked}
 use Rattle.machine_state.specs.FrameCode.{code, tree_of_frame}
 use Rattle.machine_state.specs.Acts.{State}
 use Rattle.instruction_effect.specs.Outcomes.{Site}
-use Rattle.machine_steps.specs.Settings.{Setting}
+use Rattle.machine_steps.specs.World.{World}
 
 -- the classes as they are now
-abbrev pub classes_now : Setting → State → List Class
-classes_now setting s = linked setting.job setting.turns s.trace s.core.classes
+abbrev pub classes_now : World → State → List Class
+classes_now w s = linked w.job w.turns s.trace s.core.classes
 
 -- an instruction of a frame: where it stands, the code that it stands in, and itself
 pub record Stop : Type 0 where
@@ -23,13 +23,21 @@ pub record Stop : Type 0 where
   pub instr : Instr
 
 -- that at a frame's pc, if one begins there
-abbrev pub stop_of : Setting → State → List Class → ThreadNo → Thread → MethodFrame → Option Stop
-stop_of setting s classes t thread f = do
-  list ← code setting.job setting.turns s.trace s.core.classes f
+abbrev pub stop_of : World → State → List Class → ThreadNo → Thread → MethodFrame → Option Stop
+stop_of w s classes t thread f = do
+  list ← code w.job w.turns s.trace s.core.classes f
   i ← instr_at list f.pc
-  tree ← tree_of_frame setting.job setting.turns s.trace s.core.classes f
+  tree ← tree_of_frame w.job w.turns s.trace s.core.classes f
   Some (record {
-    site = record { core = s.core; classes = classes; t = t; thread = thread; frame = f; pool = tree.pool; next = unwrap_or (following list f.pc) 65535 };
+    site = record {
+      core = s.core;
+      classes = classes;
+      t = t;
+      thread = thread;
+      frame = f;
+      pool = tree.pool;
+      next = unwrap_or (following list f.pc) 65535;
+    };
     code = list;
     instr = i;
   })

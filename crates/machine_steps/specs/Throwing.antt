@@ -11,7 +11,8 @@ use Rattle.java_heap.specs.declared.object.Content.TheVariants.{Fields}
 use Rattle.thread_frames.specs.declared.frame.StackEntry.TheVariants.{Java, Init}
 use Rattle.link_versions.specs.Classes.{Class, class_at, number_of}
 use Rattle.link_versions.specs.Members.{method_name, method_desc}
-use Rattle.machine_state.specs.Core.{Core, MethodFrame, StackFrame, Throwing, frames_at}
+use Rattle.ti_ids.specs.declared.state.Activity.TheVariants.{Throwing}
+use Rattle.machine_state.specs.Core.{Core, MethodFrame, StackFrame, frames_at}
 use Rattle.machine_state.specs.Trace.{MethodName, Place, Exception}
 use Rattle.machine_state.specs.Acts.{Act, Changes, SetsActivity, raises, core_after}
 use Rattle.instruction_effect.specs.Outcomes.{heap_has_room, makes_announced}
@@ -53,10 +54,12 @@ abbrev pub exception_raised : List Class → ThreadNo → Name → Option Method
 exception_raised classes t class None = []
 exception_raised classes t class (Some f) = raises (Exception t (place_of classes f) class) ∷ []
 
--- After these acts a thread throws an object: these are the other events of its step, and Exception comes behind them.
+-- After these acts a thread throws an object: these are the other events of its step, and Exception comes behind them. Of the core after
+-- the acts only the heap and where a frame stands is looked at, and no birth.
 abbrev pub throws_among : List Class → Core → ThreadNo → List Act → List Act → ObjNo → Name → List Act
 throws_among classes core t before events o class =
-    before ++ Changes (SetsActivity t (Throwing o)) ∷ events ++ exception_raised classes t class (top_method (frames_at (core_after core before) t))
+    before ++ Changes (SetsActivity t (Throwing o)) ∷ events
+    ++ exception_raised classes t class (top_method (frames_at (core_after 0 core before) t))
 
 abbrev pub throws : List Class → Core → ThreadNo → List Act → ObjNo → Name → List Act
 throws classes core t before o class = throws_among classes core t before [] o class
@@ -78,9 +81,10 @@ base_number classes name = unwrap_or (number_of classes name) (record { 0 = 0 })
 -- After these acts a thread throws a new exception of a base class; where the heap has no room for it, the kept error.
 abbrev pub throws_new_among : List Class → Core → ThreadNo → List Act → List Act → Name → List Act
 throws_new_among classes core t before events name =
-    let heap = (core_after core before).heap in
+    let heap = (core_after 0 core before).heap in
+    let making = makes_announced t heap (base_number classes name) (Fields []) name in
     if heap_has_room heap (Fields [])
-    then throws_among classes core t (before ++ makes_announced t heap (base_number classes name) (Fields []) name) events (heaps.next_number heap) name
+    then throws_among classes core t (before ++ making) events (heaps.next_number heap) name
     else throws_among classes core t before events kept_error full_name
 
 abbrev pub throws_new : List Class → Core → ThreadNo → List Act → Name → List Act

@@ -13,14 +13,15 @@ use Rattle.class_tree.specs.declared.body.Handler.{Handler}
 use Rattle.class_tree.specs.Tree.{class_at}
 use Rattle.java_heap.specs.Heaps as heaps
 use Rattle.thread_frames.specs.declared.frame.StackEntry.TheVariants.{Java, Init}
-use Rattle.link_versions.specs.declared.class.InitState.TheVariants as states
+use Rattle.ti_ids.specs.declared.state.InitState.TheVariants as states
 use Rattle.link_versions.specs.Classes.{Class, number_of}
 use Rattle.link_versions.specs.Subtypes.{is_subclass}
-use Rattle.machine_state.specs.Core.{Core, MethodFrame, StackFrame, Free, monitor_at}
+use Rattle.ti_ids.specs.declared.state.Activity.TheVariants.{Free}
+use Rattle.machine_state.specs.Core.{Core, MethodFrame, StackFrame, monitor_at}
 use Rattle.machine_state.specs.Trace.{Threw, MethodExit, FramePop}
 use Rattle.machine_state.specs.FrameCode.{body_of_frame, tree_of_frame}
 use Rattle.machine_state.specs.Acts.{State, Act, Changes, SetsTop, SetsActivity, SetsClass, Pops, Leaves, raises}
-use Rattle.machine_steps.specs.Settings.{Setting}
+use Rattle.machine_steps.specs.World.{World}
 use Rattle.machine_steps.specs.Throwing.{method_of, throws_new, throws_new_among}
 
 -- ---- classes of exceptions
@@ -42,10 +43,10 @@ abbrev pub catches : List Class → Core → List Const → ObjNo → Handler �
 catches classes core pool o h = if h.catch_type == 0 then true else option_map_or (is_instance classes core o) (class_at pool h.catch_type) false
 
 -- The first one that covers the frame's pc and catches the exception. Its operand stack has room for it in each class that was linked.
-abbrev pub handler_of : Setting → State → List Class → MethodFrame → ObjNo → Option Handler
-handler_of setting s classes f o = do
-  tree ← tree_of_frame setting.job setting.turns s.trace s.core.classes f
-  body ← body_of_frame setting.job setting.turns s.trace s.core.classes f
+abbrev pub handler_of : World → State → List Class → MethodFrame → ObjNo → Option Handler
+handler_of w s classes f o = do
+  tree ← tree_of_frame w.job w.turns s.trace s.core.classes f
+  body ← body_of_frame w.job w.turns s.trace s.core.classes f
   if nat_le 1 f.stack.room then find (λ h. covers f.pc h && catches classes s.core tree.pool o h) body.handlers else None
 
 -- the frame at a handler, with the exception alone on its operand stack
@@ -81,16 +82,15 @@ initializer_error = codes "java/lang/ExceptionInInitializerError"
 
 abbrev pub fails_init : State → List Class → ThreadNo → ClassNo → ObjNo → List Act
 fails_init s classes t n o =
-    let before = Changes (SetsClass n states.Erroneous) ∷ Changes (Pops t) ∷ [] in
-    if is_instance classes s.core o error_name then before else throws_new classes s.core t before initializer_error
+    let failing = Changes (SetsClass n states.Erroneous) ∷ Changes (Pops t) ∷ [] in
+    if is_instance classes s.core o error_name then failing else throws_new classes s.core t failing initializer_error
 
--- ---- one step of a thread that throws this object; None where it has no frame
+-- ---- one step of a thread that throws this object, by its topmost frame
 
 abbrev pub unwinds_frame : State → List Class → ThreadNo → MethodFrame → ObjNo → Option Handler → List Act
 unwinds_frame s classes t f o (Some h) = Changes (SetsTop t (handling f o h)) ∷ Changes (SetsActivity t Free) ∷ []
 unwinds_frame s classes t f o None = leaves_frame s classes t f f.pin.monitor
 
-abbrev pub unwinds : Setting → State → List Class → ThreadNo → List StackFrame → ObjNo → Option (List Act)
-unwinds setting s classes t [] o = None
-unwinds setting s classes t (Java f ∷ below) o = Some (unwinds_frame s classes t f o (handler_of setting s classes f o))
-unwinds setting s classes t (Init n ∷ below) o = Some (fails_init s classes t n o)
+abbrev pub unwinds : World → State → List Class → ThreadNo → StackFrame → ObjNo → List Act
+unwinds w s classes t (Java f) o = unwinds_frame s classes t f o (handler_of w s classes f o)
+unwinds w s classes t (Init n) o = fails_init s classes t n o

@@ -1,62 +1,42 @@
--- What a call of the program writes with one worker, and the status that it ends with, where memory is granted and no device fails.
-use Rattle.std.specs.Prelude.{ℕ, List, ◌∷◌, Option, Some, None, Result, Ok, Err}
+-- What a call of the program writes, and the status that it ends with, where memory is granted and no device fails.
+use Rattle.std.specs.Prelude.{◌≡◌, ℕ, ◌+◌, ◌==◌, List, [], ◌∷◌, Option, Some, None, option_map, Result, Ok, Err, if◌then◌else◌}
 use Rattle.ti_ids.specs.declared.actor.Actor.{Actor}
 use Rattle.ti_ids.specs.declared.actor.End.{End}
 use Rattle.ti_ids.specs.declared.actor.End.TheVariants as ends
 use Rattle.report_text.specs.declared.thread_line.ThreadLine.{ThreadLine}
 use Rattle.report_text.specs.declared.thread_line.ThreadLine.TheVariants as lines
+use Rattle.job_words.specs.declared.agent_fault.AgentFault.{AgentFault}
+use Rattle.job_words.specs.declared.refusal.Refusal.{Refusal}
+use Rattle.job_words.specs.declared.refusal.Refusal.TheVariants.{BadEntry}
+use Rattle.job_words.specs.declared.status.Status.{Status}
+use Rattle.job_words.specs.declared.status.Status.TheVariants.{Done, Uncaught, Stuck, Limit}
+use Rattle.job_words.specs.Options.{Word}
+use Rattle.job_words.specs.Refusals.{refusal_text}
+use Rattle.job_words.specs.Statuses.{refusal_status}
+use Rattle.job_words.specs.Fetches.{Admitted, Files}
 use Rattle.machine_state.specs.Jobs as jobs
-use Rattle.machine_state.specs.Jobs.{Job}
-use Rattle.machine_steps.specs.Settings.{Setting}
-use Rattle.machine_steps.specs.Ends.{end}
-use Rattle.machine_steps.specs.Replay.{state}
+use Rattle.machine_state.specs.Acts.{State}
+use Rattle.machine_steps.specs.World.{World, Meaning, world_of}
+use Rattle.machine_steps.specs.Ends.{end, is_enabled}
+use Rattle.machine_steps.specs.Replay.{step, state, opening}
 use Rattle.machine_steps.specs.Picks.{picked}
 use Rattle.machine_steps.specs.Reports.{report_parts, report}
-use Rattle.machine_steps.specs.Options.{Word}
-use Rattle.machine_steps.specs.Refusals.{AgentFault, Refusal, Usage, Absent, ReadFault, TooLarge, BadClass, BadAgent, BadText, BadEntry, refusal_text}
-use Rattle.machine_steps.specs.Results.{Files, Task, Run, Replay, Make, result_of, replay_refusal}
+use Rattle.machine_steps.specs.Headline.{IsReport}
+use Rattle.machine_steps.specs.Results.{Task, RunTask, ReplayTask, MakeTask, result_of}
 
-pub data Status : Type 0 where
-  -- the machine is dead and thread 1 didn't end by an exception, or a replay ends where the run has no end yet
-  Done : Status
-  -- the machine is dead, and thread 1 ended by an exception
-  Uncaught : Status
-  UsageRefused : Status
-  FileAbsent : Status
-  ClassRefused : Status
-  AgentRefused : Status
-  FileUnread : Status
-  InputTooLarge : Status
-  Stuck : Status
-  -- a limit of the run was met
-  LimitMet : Status
-  ScheduleRefused : Status
+-- ---- a schedule that can't be performed
 
--- the number that the program ends with; 7 is for a failed write, and 8 for want of memory
-abbrev pub status_number : Status → ℕ
-status_number Done = 0
-status_number Uncaught = 1
-status_number UsageRefused = 2
-status_number FileAbsent = 3
-status_number ClassRefused = 4
-status_number AgentRefused = 5
-status_number FileUnread = 6
-status_number InputTooLarge = 9
-status_number Stuck = 10
-status_number LimitMet = 11
-status_number ScheduleRefused = 12
+-- The first entry that can't be performed, told by how many stand before it: the first one whose actor isn't enabled in the state after
+-- the entries before it. After an end no actor is. From this state, behind so many entries.
+abbrev pub barred_from : World → State → ℕ → List Actor → Option ℕ
+barred_from w s before [] = None
+barred_from w s before (actor ∷ actors) = if is_enabled w s actor then barred_from w (step w s actor) (before + 1) actors else Some before
 
--- ---- the status of a refusal, and of the end of a run
+-- the refusal of a replay, which comes with the run
+abbrev pub replay_refusal : World → List Actor → Option Refusal
+replay_refusal w schedule = option_map BadEntry (barred_from w (opening w.job) 0 schedule)
 
-abbrev pub refusal_status : Refusal → Status
-refusal_status Usage = UsageRefused
-refusal_status (Absent place) = FileAbsent
-refusal_status (ReadFault place) = FileUnread
-refusal_status (TooLarge limit n) = InputTooLarge
-refusal_status (BadClass place fault) = ClassRefused
-refusal_status (BadAgent place fault) = AgentRefused
-refusal_status BadText = ScheduleRefused
-refusal_status (BadEntry before) = ScheduleRefused
+-- ---- the status of a run's end
 
 -- by how thread 1 stands
 abbrev pub dead_status : List ThreadLine → Status
@@ -65,9 +45,9 @@ dead_status _ = Done
 
 abbrev pub end_status : List ThreadLine → Option End → Status
 end_status threads (Some ends.Dead) = dead_status threads
-end_status threads (Some ends.StepLimit) = LimitMet
-end_status threads (Some ends.LineLimit) = LimitMet
-end_status threads (Some ends.OutputLimit) = LimitMet
+end_status threads (Some ends.StepLimit) = Limit
+end_status threads (Some ends.LineLimit) = Limit
+end_status threads (Some ends.OutputLimit) = Limit
 end_status threads (Some ends.Stuck) = Stuck
 end_status threads None = Done
 
@@ -81,22 +61,54 @@ abbrev pub refused : Refusal → Written
 refused refusal = record { status = refusal_status refusal; text = refusal_text refusal }
 
 -- the report of a schedule that can be run, run to its end or to where it is cut
-abbrev pub reported_by : Setting → List Actor → Option End → Written
-reported_by setting schedule e = record { status = end_status (report_parts setting schedule e).threads e; text = report setting schedule e }
+abbrev pub reported_by : World → List Actor → Option End → Written
+reported_by w schedule e = record { status = end_status (report_parts w schedule e).threads e; text = report w schedule e }
 
-abbrev pub reported : Setting → List Actor → Written
-reported setting schedule = reported_by setting schedule (end setting (state setting schedule))
+abbrev pub reported : World → List Actor → Written
+reported w schedule = reported_by w schedule (end w (state w schedule))
 
 -- a schedule that is given
-abbrev pub replayed : Setting → List Actor → Written
-replayed setting schedule = elim (replay_refusal setting schedule) [ Some refusal ↦ refused refusal | None ↦ reported setting schedule ]
+abbrev pub replayed_by : World → List Actor → Option Refusal → Written
+replayed_by w schedule (Some refusal) = refused refusal
+replayed_by w schedule None = reported w schedule
 
--- of a task; what `make` writes is not said yet
-abbrev pub written_of : (Job → Setting) → Task → Option Written
-written_of settings (Run job workers) = let setting = settings job in Some (reported setting (picked setting))
-written_of settings (Replay job schedule) = Some (replayed (settings job) schedule)
-written_of settings (Make number size) = None
+abbrev pub replayed : World → List Actor → Written
+replayed w schedule = replayed_by w schedule (replay_refusal w schedule)
 
--- What words and files come to, where an agent file says what `read_agent` says, and a job runs in the setting that `settings` gives.
-abbrev pub written : (List ℕ → ℕ → Result jobs.Agent AgentFault) → (Job → Setting) → List Word → Files → Option Written
-written read_agent settings words files = elim (result_of read_agent words files) [ Err refusal ↦ Some (refused refusal) | Ok task ↦ written_of settings task ]
+-- ---- with any number of workers
+
+-- a run: its text is the report of the schedule that it states, and its status that of the end
+pub record IsReported (w : World) (it : Written) : Type 0 where
+  pub report : IsReport w it.text
+  pub status : it.status ≡ end_status (report_parts w report.schedule (Some report.end)).threads (Some report.end)
+
+-- What is written of a task. Several workers may choose any actors that are enabled, and so write any such report; one worker writes that of
+-- the schedule that it picks. What `make` writes is not said yet.
+abbrev pub IsWrittenOf : Meaning → Task → Written → Type 0
+IsWrittenOf meaning (RunTask job workers) it =
+    let w = world_of meaning job in IsReported w it × (workers ≡ 1 → it ≡ reported w (picked job.limits.slice w))
+IsWrittenOf meaning (ReplayTask job schedule) it = it ≡ replayed (world_of meaning job) schedule
+IsWrittenOf meaning (MakeTask number size) it = Unit {0}
+
+abbrev pub IsWrittenBy : Meaning → Admitted Task → Written → Type 0
+IsWrittenBy meaning (Err refusal) it = it ≡ refused refusal
+IsWrittenBy meaning (Ok task) it = IsWrittenOf meaning task it
+
+-- What is written of words and files, where an agent file says what `read_agent` says.
+abbrev pub IsWritten : (List ℕ → ℕ → Result jobs.Agent AgentFault) → Meaning → List Word → Files → Written → Type 0
+IsWritten read_agent meaning words files it = IsWrittenBy meaning (result_of read_agent words files) it
+
+-- ---- where there is no choice: with one worker, and of a schedule that is given
+
+abbrev pub written_of : Meaning → Task → Option Written
+written_of meaning (RunTask job workers) =
+    let w = world_of meaning job in if workers == 1 then Some (reported w (picked job.limits.slice w)) else None
+written_of meaning (ReplayTask job schedule) = Some (replayed (world_of meaning job) schedule)
+written_of meaning (MakeTask number size) = None
+
+abbrev pub written_by : Meaning → Admitted Task → Option Written
+written_by meaning (Err refusal) = Some (refused refusal)
+written_by meaning (Ok task) = written_of meaning task
+
+abbrev pub written : (List ℕ → ℕ → Result jobs.Agent AgentFault) → Meaning → List Word → Files → Option Written
+written read_agent meaning words files = written_by meaning (result_of read_agent words files)

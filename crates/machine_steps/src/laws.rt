@@ -1,5 +1,6 @@
-ghost use Rattle.machine_steps.specs.Laws.{NoneAfterEnd, HasStepLeft, CountsOne, AddsRecords, OutputGrows, ObjectsStay, ClassesStay, LoadsOnce, NamesDiffer, ChecksTypes, FramesAreBorn, CodeStays, PickedRuns, PickedEnds, StatesSchedule};
-ghost use Rattle.machine_steps.specs.WordLaws.{ManyAreMany};
+ghost use Rattle.machine_steps.specs.Laws.{NoneAfterEnd, HasStepLeft, SomeoneIsEnabled, CountsOne, AddsRecords, PerformsNextCall, OutputGrows, ObjectsStay, FewThreads, ClassesStay, LoadsOnce, StaysFailed, NamesDiffer, FramesAreBorn, CodeStays, PickedCanRun, PickedEnds, FitsLimit, NoEndBefore, StatesNamed, StatesSchedule};
+ghost use Rattle.machine_steps.specs.Bounds.{TasksAreBounded};
+ghost use Rattle.machine_steps.specs.ReportLaws.{PickedIsReported, WrittenIsWritten, ReplaysSame};
 
 /// Does nothing, and is there for its contract: the laws of the steps, whatever the job and its agents do.
 pub fn step_laws()
@@ -9,11 +10,17 @@ pub fn step_laws()
     // A step adds its records to the end of the trace, each with the step's number and its actor.
     ensures records { AddsRecords }
 
+    // The next call of an actor, if it has one, is what its next step performs.
+    ensures calls { PerformsNextCall }
+
     // Output only grows.
     ensures output { OutputGrows }
 
     // Objects keep their numbers and their classes, and new ones come behind them.
     ensures objects { ObjectsStay }
+
+    // There are never more threads than may be made.
+    ensures threads { FewThreads }
 
     // Classes keep their numbers and their names.
     ensures classes { ClassesStay }
@@ -21,11 +28,11 @@ pub fn step_laws()
     // Only a class that isn't there is loaded, and none whose load has failed.
     ensures loads { LoadsOnce }
 
+    // A class whose load has failed is never loaded, and its error stays.
+    ensures failed { StaysFailed }
+
     // After every schedule no two classes have the same name.
     ensures names { NamesDiffer }
-
-    // The answer that the link step goes by is that of the specification's type checker.
-    ensures types { ChecksTypes }
 
     // After every schedule every frame was born by now, of classes that are there.
     ensures born { FramesAreBorn }
@@ -34,7 +41,7 @@ pub fn step_laws()
     ensures code { CodeStays }
 {}
 
-/// Does nothing, and is there for its contract: the laws of ends, of the schedule that one worker picks, and of reports.
+/// Does nothing, and is there for its contract: the laws of ends, of schedules that can be run, and of the reports that state them.
 pub fn schedule_laws()
     // After an end no actor is enabled.
     ensures ended { NoneAfterEnd }
@@ -42,18 +49,39 @@ pub fn schedule_laws()
     // Where there is no end, a step is left.
     ensures left { HasStepLeft }
 
+    // Where there is no end, some actor is enabled.
+    ensures enabled { SomeoneIsEnabled }
+
     // The picked schedule can be run.
-    ensures runs { PickedRuns }
+    ensures runs { PickedCanRun }
 
     // It goes on to an end.
     ensures ends { PickedEnds }
 
-    // The report of a schedule states it.
+    // A schedule that can be run is no longer than the limit of steps.
+    ensures fits { FitsLimit }
+
+    // No state before its last one has an end.
+    ensures before { NoEndBefore }
+
+    // The report of a schedule states it, where a line can name its actors and its number of steps.
+    ensures named { StatesNamed }
+
+    // The report of a schedule of an accepted job that can be run states it.
     ensures states { StatesSchedule }
 {}
 
-/// Does nothing, and is there for its contract: the law of words.
-pub fn word_laws()
-    // Of accepted words, `wants_many` says whether they ask for a run with more than one worker.
-    ensures many { ManyAreMany }
+/// Does nothing, and is there for its contract: the laws of what is written.
+pub fn report_laws()
+    // What is accepted is within its bounds.
+    ensures bounded { TasksAreBounded }
+
+    // The report of the picked schedule states that schedule, which can be run, and is the report of it to its end.
+    ensures picked { PickedIsReported }
+
+    // With one worker, what is written is one of the reports that any number of workers may write.
+    ensures written { WrittenIsWritten }
+
+    // A replay of the schedule that a report states writes the report again.
+    ensures replays { ReplaysSame }
 {}

@@ -4,4 +4,4 @@
 
 mod laws;
 
-pub use laws::{schedule_laws, step_laws, word_laws};
+pub use laws::{report_laws, schedule_laws, step_laws};

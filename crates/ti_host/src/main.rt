@@ -14,5 +14,5 @@ fn main(rt: HostRuntime) -> ExitCode {
         Ok(words) => host_one(rt.alloc(), &words, &mut store, &mut sink),
         Err(AllocError) => Status::OutOfMemory,
     };
-    ExitCode::from(status as u8)
+    ExitCode::from(status.number())
 }

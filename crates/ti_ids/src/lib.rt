@@ -10,5 +10,5 @@ mod value;
 pub use actor::{Actor, End};
 pub use limits::Limits;
 pub use number::{ClassNo, EnvNo, FieldNo, Location, MethodNo, ObjNo, ThreadNo, VersionNo};
-pub use state::{Announced, InitState, ThreadState};
+pub use state::{Activity, Announced, InitState, ThreadState};
 pub use value::Value;

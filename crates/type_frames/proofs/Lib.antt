@@ -10,3 +10,6 @@ pub mod Formed
 pub mod Examples
 pub mod Sizes
 pub mod Stating
+pub mod Reached
+pub mod TypeStates
+pub mod Answering

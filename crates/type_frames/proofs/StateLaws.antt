@@ -8,7 +8,7 @@ use Rattle.type_frames.specs.States.{State}
 use Rattle.type_frames.specs.Rules.{rule}
 use Rattle.type_frames.specs.TypeChecks.{Checked, mapped, IsFirst, IsLater, left_at, FitsAt, FitsUpTo}
 
-some_is : {A : Type 0} {x y : A} → Some x ≡ Some y → x ≡ y
+pub some_is : {A : Type 0} {x y : A} → Some x ≡ Some y → x ≡ y
 some_is e = cc
 
 -- two instructions of one place begin at one offset

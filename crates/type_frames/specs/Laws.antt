@@ -1,9 +1,10 @@
 -- The laws of the type check of a method and of a class.
-use Rattle.std.specs.Prelude.{◌≡◌, ℕ, ◌≤◌, List, slice_get}
+use Rattle.std.specs.Prelude.{◌≡◌, ◌↔◌, ℕ, ◌≤◌, true, List, slice_get}
 use Rattle.class_tree.specs.Trees.{Tree}
 use Rattle.type_frames.specs.Hierarchies.{Known}
 use Rattle.type_frames.specs.States.{State}
 use Rattle.type_frames.specs.TypeChecks.{Checked, FitsUpTo, Fails, TypeChecks, ClassPasses, ClassFails}
+use Rattle.type_frames.specs.Answering.{class_passes}
 
 -- Two lists of states that fit up to a place agree up to it.
 abbrev pub AgreeUpTo : Type 0
@@ -24,3 +25,7 @@ ClassFailsAtOne = (h : Known) (t : Tree) (place offset other at : ℕ) → Class
 -- A class doesn't both fail and pass.
 abbrev pub ClassNeverBoth : Type 0
 ClassNeverBoth = (h : Known) (t : Tree) (place offset : ℕ) → ClassFails h t place offset → ClassPasses h t → ⊥
+
+-- The answer that is computed is that of the specification's type checker.
+abbrev pub ChecksTypes : Type 0
+ChecksTypes = (h : Known) (t : Tree) → (class_passes h t ≡ true) ↔ ClassPasses h t

@@ -13,6 +13,9 @@ pub mod RulesOfFields
 pub mod RulesOfCalls
 pub mod Rules
 pub mod TypeChecks
+pub mod Walking
+pub mod TypeStates
+pub mod Answering
 pub mod Keyed
 pub mod Stated
 pub mod Laws

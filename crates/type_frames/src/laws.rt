@@ -1,4 +1,4 @@
-ghost use Rattle.type_frames.specs.Laws.{AgreeUpTo, FailsAtOne, NeverBoth, ClassFailsAtOne, ClassNeverBoth};
+ghost use Rattle.type_frames.specs.Laws.{AgreeUpTo, FailsAtOne, NeverBoth, ClassFailsAtOne, ClassNeverBoth, ChecksTypes};
 
 /// Does nothing, and is there for its contract: the laws of the type check of a method and of a class.
 pub fn type_laws()
@@ -16,4 +16,7 @@ pub fn type_laws()
 
     // A class doesn't both fail and pass.
     ensures not_both_of_class { ClassNeverBoth }
+
+    // The answer that is computed is that of the specification's type checker.
+    ensures computed { ChecksTypes }
 {}

@@ -3,8 +3,8 @@
 //!
 //! The definitions in `specs/` are in the order of `specs/Lib.antt`: types (`Types`), classes (`Hierarchies`), which type may
 //! stand for which (`Assignable`), type states (`States`), stack maps (`StackMaps`), the rules of the instructions by family
-//! (`RulesOf..`, joined in `Rules`), what the type check of a method and of a class is (`TypeChecks`), and which classes class files
-//! state to it (`Stated`).
+//! (`RulesOf..`, joined in `Rules`), what the type check of a method and of a class is (`TypeChecks`), how its answer is computed
+//! (`Walking`, `TypeStates`, `Answering`), and which classes class files state to it (`Stated`).
 #![tactic(auto)]
 
 mod assigning;

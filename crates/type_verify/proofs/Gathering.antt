@@ -6,10 +6,11 @@ use Rattle.type_frames.specs.declared.frame.MapFrame.{MapFrame}
 use Rattle.type_frames.specs.States.{State, held}
 use Rattle.type_frames.specs.Rules.{rule}
 use Rattle.type_frames.specs.TypeChecks.{Checked}
-use Rattle.type_verify.specs.Walking.{entered}
-use Rattle.type_verify.specs.Recomputing.{typed_from, AllPass}
-use Rattle.type_verify.proofs.Reached.{some_is}
-use Rattle.type_verify.proofs.Passing.{drop_over, first_of}
+use Rattle.type_frames.specs.Walking.{entered}
+use Rattle.type_frames.specs.TypeStates.{typed_from}
+use Rattle.type_frames.proofs.StateLaws.{some_is}
+use Rattle.type_frames.proofs.TypeStates.{drop_over, first_of}
+use Rattle.type_verify.specs.Recomputing.{AllPass}
 
 right_none : (xs : List MapFrame) → xs ++ [] ≡ xs
 right_none [] = refl

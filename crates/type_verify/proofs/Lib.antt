@@ -1,4 +1,4 @@
-pub mod Reached
+pub mod Walked
 pub mod Mapped
 pub mod Entering
 pub mod Offsets

@@ -9,8 +9,8 @@ use Rattle.type_frames.specs.declared.frame.MapFrame.{MapFrame}
 use Rattle.type_frames.specs.Hierarchies.{Known}
 use Rattle.type_frames.specs.States.{State}
 use Rattle.type_frames.specs.TypeChecks.{Checked, state_of, map_frames, mapped, is_state_assignable, is_accepted_at}
-use Rattle.type_verify.specs.Walking.{offset_in_code}
 use Rattle.type_states.specs.Given.{given_at}
+use Rattle.type_verify.specs.Checkers.{offset_in_code}
 
 -- what a map gives at an offset
 abbrev pub state_at : List MapFrame → ℕ → Option State

@@ -1,4 +1,3 @@
-pub mod Walking
 pub mod Checkers
 pub mod Outcomes
 pub mod Verdicts

@@ -1,7 +1,6 @@
--- How type states that are given out are found again: one instruction after the other, from the state that each is reached with.
-use Rattle.std.specs.Prelude.{◌≡◌, ℕ, ◌+◌, List, [], ◌∷◌, map, option_map, true, false, Option, Some, unwrap_or, slice_get}
+-- How type states that are given out are found again, for the methods of a class.
+use Rattle.std.specs.Prelude.{◌≡◌, ℕ, List, [], map, option_map, true, false, Option, Some, unwrap_or, slice_get}
 use Rattle.ti_ids.specs.Maybe.{◌>>=◌}
-use Rattle.class_code.specs.declared.instr.Instr.{Instr}
 use Rattle.class_tree.specs.declared.body.Code.{Code}
 use Rattle.class_tree.specs.declared.members.Member.{Member}
 use Rattle.class_tree.specs.Trees.{Tree}
@@ -9,21 +8,9 @@ use Rattle.class_tree.specs.Tree.{code_of}
 use Rattle.class_tree.specs.CodeRules.{is_code}
 use Rattle.type_frames.specs.declared.frame.MapFrame.{MapFrame}
 use Rattle.type_frames.specs.Hierarchies.{Known}
-use Rattle.type_frames.specs.States.{State, held}
-use Rattle.type_frames.specs.TypeChecks.{Checked, AreStates, initial, map_in, is_bad_map, checked}
-use Rattle.type_verify.specs.Walking.{entered, passed}
-
--- the state of the instruction at a place, and what it leaves
-abbrev pub typed_step : Checked → ℕ → ℕ × Instr → State → Option (MapFrame × State)
-typed_step m place p s = entered m place p.0 s >>= λ state. passed m p (slice_get m.env.instrs (place + 1)) state >>= λ left. Some (held p.0 state, left)
-
--- those of these instructions, if they all pass
-abbrev pub typed_from : Checked → ℕ → List (ℕ × Instr) → State → Option (List MapFrame)
-typed_from m place [] s = Some []
-typed_from m place (p ∷ instrs) s = typed_step m place p s >>= λ x. typed_from m (place + 1) instrs x.1 >>= λ frames. Some (x.0 ∷ frames)
-
-abbrev pub typed : Checked → Option (List MapFrame)
-typed m = initial m >>= λ s. typed_from m 0 m.env.instrs s
+use Rattle.type_frames.specs.States.{State}
+use Rattle.type_frames.specs.TypeChecks.{Checked, AreStates, map_in, is_bad_map, checked}
+use Rattle.type_frames.specs.TypeStates.{typed_from, typed}
 
 -- of a method, if it has code
 abbrev pub entry_of : Known → Tree → Member → Option (List MapFrame)

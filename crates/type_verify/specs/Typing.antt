@@ -1,6 +1,5 @@
 -- Type states as they are given out: one for each instruction of a method that passes its type check (JVM specification 4.10.1).
-use Rattle.std.specs.Prelude.{◌≡◌, ℕ, List, [], map, length, Option, None, Some, slice_get, Result, Ok, Err}
-use Rattle.std.specs.List.{zip}
+use Rattle.std.specs.Prelude.{◌≡◌, ℕ, List, [], length, Option, None, Some, slice_get, Result, Ok, Err}
 use Rattle.ti_ids.specs.Maybe.{◌>>=◌}
 use Rattle.class_code.specs.declared.instr.Instr.{Instr}
 use Rattle.class_tree.specs.declared.body.Code.{Code}
@@ -9,8 +8,9 @@ use Rattle.class_tree.specs.Trees.{Tree}
 use Rattle.class_tree.specs.Tree.{code_of}
 use Rattle.type_frames.specs.declared.frame.MapFrame.{MapFrame}
 use Rattle.type_frames.specs.Hierarchies.{Known}
-use Rattle.type_frames.specs.States.{State, held}
+use Rattle.type_frames.specs.States.{State}
 use Rattle.type_frames.specs.TypeChecks.{instrs_in, map_in, TypeChecks, Passes, Fails, ClassFails}
+use Rattle.type_frames.specs.TypeStates.{held_at}
 use Rattle.type_verify.specs.declared.verify.VerifyFault.{VerifyFault}
 use Rattle.type_verify.specs.declared.verify.VerifyFault.TheVariants as fault
 
@@ -28,10 +28,6 @@ abbrev pub map_at : Tree → ℕ → Result (List MapFrame) ℕ
 map_at t place = elim (slice_get t.methods place) [ None ↦ Ok [] | Some m ↦ map_of t m (code_of m.attrs) ]
 
 -- ---- what is promised
-
--- these states, each with the offset of its instruction
-abbrev pub held_at : List (ℕ × Instr) → List State → List MapFrame
-held_at instrs states = map (λ x. held x.0.0 x.1) (zip instrs states)
 
 abbrev pub instrs_of : Option Code → List (ℕ × Instr)
 instrs_of None = []

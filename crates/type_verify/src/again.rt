@@ -5,11 +5,12 @@ ghost use Rattle.class_code.specs.Listing.{IsRising};
 ghost use Rattle.std.specs.List.Sorted.{IsNonDecreasingBy};
 ghost use Rattle.type_frames.specs.Rules.{rule as rule_of};
 ghost use Rattle.type_frames.specs.TypeChecks.{checked, instrs_in};
+ghost use Rattle.type_frames.specs.Walking.{entered};
+ghost use Rattle.type_frames.specs.TypeStates.{typed_from, typed};
 ghost use Rattle.type_rules.specs.Methods.{env_of};
 ghost use Rattle.type_verify.specs.Checkers.{checked_of, IsReady};
 ghost use Rattle.type_verify.specs.Outcomes.{IsBegun};
-ghost use Rattle.type_verify.specs.Recomputing.{typed_from, typed, AllPass, CodePasses};
-ghost use Rattle.type_verify.specs.Walking.{entered};
+ghost use Rattle.type_verify.specs.Recomputing.{AllPass, CodePasses};
 
 use crate::checker::Checker;
 use crate::code::{checker_of, instrs_of};
@@ -22,7 +23,7 @@ use type_states::{State, Stop};
 
 impl<'a> Checker<'a> {
     /// The state with which the instruction at a place begins, where it is known to begin.
-    #[tactic(auto, using(crate::proofs::Reached::entered_room))]
+    #[tactic(auto, using(type_frames::proofs::Reached::entered_room))]
     fn enter_again(
         &self,
         alloc: Global,

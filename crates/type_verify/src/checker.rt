@@ -4,11 +4,11 @@ ghost use Rattle.std.specs.List.{list_all};
 ghost use Rattle.std.specs.Option.{option_map_or};
 ghost use Rattle.class_code.specs.declared.instr.Instr.TheVariants.{TableSwitch as a_table, LookupSwitch as a_lookup};
 ghost use Rattle.type_frames.specs.TypeChecks.{mapped, is_state_assignable, is_accepted_at, may_follow as follows_on, caught as caught_by, throwable_name, thrown, is_handled};
+ghost use Rattle.type_frames.specs.Walking.{are_handled as all_handle, are_accepted as all_accept, entered_first, entered_later, entered, passed};
 ghost use Rattle.type_frames.specs.Assignable.{is_assignable};
 ghost use Rattle.type_frames.specs.declared.vtype.VType.TheVariants.{Object};
 ghost use Rattle.type_states.specs.Answers.{Leaves};
-ghost use Rattle.type_verify.specs.Checkers.{checked_of, IsReady};
-ghost use Rattle.type_verify.specs.Walking.{are_handled as all_handle, are_accepted as all_accept, entered_first, entered_later, entered, passed, offset_in_code as offset_of};
+ghost use Rattle.type_verify.specs.Checkers.{checked_of, IsReady, offset_in_code as offset_of};
 
 use crate::flow::falls_through;
 use class_code::{Instr, LookupSwitch, TableSwitch};

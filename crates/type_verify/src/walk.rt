@@ -2,9 +2,9 @@
 ghost use Rattle.std.specs.Prelude.{◌≡◌, ◌+◌, ◌<◌, ◌≤◌, length, Some, OnOk, slice_get};
 ghost use Rattle.std.specs.Option.{ForSome};
 ghost use Rattle.type_frames.specs.TypeChecks.{initial};
+ghost use Rattle.type_frames.specs.Walking.{stepped};
 ghost use Rattle.type_states.specs.Answers.{Leaves};
 ghost use Rattle.type_verify.specs.Checkers.{checked_of, IsReady};
-ghost use Rattle.type_verify.specs.Walking.{stepped};
 ghost use Rattle.type_verify.specs.Outcomes.{IsDecided};
 
 use crate::checker::Checker;

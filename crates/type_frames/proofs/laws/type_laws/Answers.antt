@@ -1,5 +1,6 @@
 use Rattle.type_frames.proofs.StateLaws.{agree}
 use Rattle.type_frames.proofs.MethodLaws.{one_offset, not_both, one_fault, not_both_of_class}
+use Rattle.type_frames.proofs.Answering.{checks_types}
 use Rattle.type_frames.proofs.laws.type_laws.Goals as goal
 
 pub returns-clause-agree : goal.returns-clause-agree
@@ -16,3 +17,6 @@ returns-clause-one_fault c = one_fault
 
 pub returns-clause-not_both_of_class : goal.returns-clause-not_both_of_class
 returns-clause-not_both_of_class c = not_both_of_class
+
+pub returns-clause-computed : goal.returns-clause-computed
+returns-clause-computed c = checks_types

@@ -1,8 +1,8 @@
 use Rattle.std.proofs.Common.{◌∙◌, ◌<◌, ℕ, List, length, sym, subst}
 use Rattle.class_code.specs.declared.instr.Instr.{Instr}
 use Rattle.type_frames.specs.TypeChecks.{checked}
+use Rattle.type_frames.proofs.TypeStates.{never_nothing}
 use Rattle.type_verify.specs.Checkers.{checked_of}
-use Rattle.type_verify.proofs.Passing.{never_nothing}
 use Rattle.type_verify.proofs.again.begin_again.Goals as goal
 
 pub unreachable-requires-in_default : goal.unreachable-requires-in_default

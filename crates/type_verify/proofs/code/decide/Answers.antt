@@ -2,8 +2,8 @@ use Rattle.std.proofs.Common.{◌∙◌, ℕ, refl, sym, subst}
 use Rattle.std.proofs.lemmas.Option.{slice_get_read}
 use Rattle.class_code.specs.declared.instr.Instr.{Instr}
 use Rattle.type_frames.specs.TypeChecks.{IsOffending}
+use Rattle.type_frames.proofs.Reached.{offends_at_first}
 use Rattle.type_verify.specs.Checkers.{checked_of}
-use Rattle.type_verify.proofs.Reached.{offends_at_first}
 use Rattle.type_verify.proofs.code.decide.Goals as goal
 
 pub returns-in-None : goal.returns-in-None

@@ -3,7 +3,7 @@ use Rattle.std.proofs.lemmas.Option.{slice_get_read}
 use Rattle.type_handlers.specs.Coverage.{Coverage}
 use Rattle.type_verify.specs.Checkers.{checked_of}
 use Rattle.type_verify.proofs.Offsets.{reached_later}
-use Rattle.type_verify.proofs.Reached.{walk_more, walk_offends}
+use Rattle.type_verify.proofs.Walked.{walk_more, walk_offends}
 use Rattle.type_verify.proofs.walk.walk.Goals as goal
 
 pub step-requires-clause-reached : goal.step-requires-clause-reached

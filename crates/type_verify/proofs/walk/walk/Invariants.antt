@@ -3,7 +3,7 @@ use Rattle.std.specs.Prelude.{slice_get}
 use Rattle.std.specs.Option.{ForSome}
 use Rattle.class_code.specs.declared.instr.Instr.{Instr}
 use Rattle.type_verify.specs.Checkers.{checked_of}
-use Rattle.type_verify.proofs.Reached.{IsWalked}
+use Rattle.type_verify.proofs.Walked.{IsWalked}
 use Rattle.type_verify.proofs.walk.walk.Given as goal
 
 abbrev pub invariant-loop-place : goal.invariant-loop-place

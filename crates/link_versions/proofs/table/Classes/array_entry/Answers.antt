@@ -2,7 +2,7 @@ use Rattle.std.proofs.Common.{◌≡◌, ◌+◌, ◌∷◌, length, refl, sym, 
 use Rattle.jv_names.specs.declared.descriptor.FieldType.{FieldType}
 use Rattle.link_versions.specs.declared.class.Entry.{Entry}
 use Rattle.link_versions.specs.declared.class.EntryKind.TheVariants as entry_kinds
-use Rattle.link_versions.specs.declared.class.InitState.TheVariants as states
+use Rattle.ti_ids.specs.declared.state.InitState.TheVariants as states
 use Rattle.link_versions.specs.Classes.{number_of}
 use Rattle.link_versions.specs.Orders.{lookup_order, superclasses, from_parent, ordered}
 use Rattle.link_versions.specs.Changes.{element_by, array_class}

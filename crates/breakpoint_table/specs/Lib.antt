@@ -1,0 +1,3 @@
+pub mod Breakpoints
+pub mod Watches
+pub mod Laws

@@ -1,0 +1,2 @@
+pub mod WorkerWords
+pub mod ManyWorkers

@@ -1,0 +1,15 @@
+use Rattle.machine_steps.proofs.Bounded.{tasks_are_bounded}
+use Rattle.machine_steps.proofs.Reporting.{picked_is_reported, written_is_written, replays_same}
+use Rattle.machine_steps.proofs.laws.report_laws.Goals as goal
+
+pub returns-clause-bounded : goal.returns-clause-bounded
+returns-clause-bounded c = tasks_are_bounded
+
+pub returns-clause-picked : goal.returns-clause-picked
+returns-clause-picked c = picked_is_reported
+
+pub returns-clause-written : goal.returns-clause-written
+returns-clause-written c = written_is_written
+
+pub returns-clause-replays : goal.returns-clause-replays
+returns-clause-replays c = replays_same

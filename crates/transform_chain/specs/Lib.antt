@@ -1,0 +1,4 @@
+pub mod Groups
+pub mod Turns
+pub mod Registrations
+pub mod Laws

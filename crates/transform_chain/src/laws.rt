@@ -1,0 +1,10 @@
+ghost use Rattle.transform_chain.specs.Laws.{GroupsRise, KeptGoesOn};
+
+/// Does nothing, and is there for its contract: the laws of groups and folds.
+pub fn chain_laws()
+    // By groups, no transformer stands before one of a lower group.
+    ensures groups { GroupsRise }
+
+    // What all turns make is what those that are capable of retransformation make of what the others left.
+    ensures kept { KeptGoesOn }
+{}
