@@ -64,5 +64,8 @@ is_same_capability a b = capability_bit a == capability_bit b
 abbrev pub is_potential : Capability → Phase → Bool
 is_potential c phase = list_any (is_same_phase phase) (capability_row c).potential
 
+abbrev pub capability_of_bit : ℕ → Option Capability
+capability_of_bit bit = find (λ c. bit == capability_bit c) all_capabilities
+
 abbrev pub capability_of_name : List ℕ → Option Capability
 capability_of_name name = find (λ c. bytes_eq name (capability_name c)) all_capabilities

@@ -1,3 +1,6 @@
+ghost use Rattle.std.specs.Prelude.{◌≡◌};
+ghost use Rattle.ti_codes.specs.Errors.{error_number};
+
 /// What a tool call answers (`jvmtiError`), by its number.
 #[derive(Clone, Copy)]
 pub enum ErrorCode {
@@ -34,4 +37,13 @@ pub enum ErrorCode {
     IllegalArgument = 103,
     WrongPhase = 112,
     InvalidEnvironment = 116,
+}
+
+impl ErrorCode {
+    /// Its number.
+    pub fn number(self) -> u32
+        ensures { result ≡ error_number self }
+    {
+        self as u32
+    }
 }

@@ -1,3 +1,6 @@
+ghost use Rattle.std.specs.Prelude.{◌≡◌};
+ghost use Rattle.ti_codes.specs.Events.{event_name, event_number};
+
 /// The events (`jvmtiEvent`), by their numbers.
 #[derive(Clone, Copy)]
 pub enum EventKind {
@@ -23,4 +26,43 @@ pub enum EventKind {
     MonitorContendedEnter = 75,
     MonitorContendedEntered = 76,
     VMObjectAlloc = 84,
+}
+
+impl EventKind {
+    /// Its number.
+    pub fn number(self) -> u32
+        ensures { result ≡ event_number self }
+    {
+        self as u32
+    }
+
+    /// Its name, as agent files and log lines write it.
+    pub fn name(self) -> &'static str
+        ensures { result.now ≡ event_name self }
+    {
+        match self {
+            EventKind::VMInit => "VMInit",
+            EventKind::VMDeath => "VMDeath",
+            EventKind::ThreadStart => "ThreadStart",
+            EventKind::ThreadEnd => "ThreadEnd",
+            EventKind::ClassFileLoadHook => "ClassFileLoadHook",
+            EventKind::ClassLoad => "ClassLoad",
+            EventKind::ClassPrepare => "ClassPrepare",
+            EventKind::VMStart => "VMStart",
+            EventKind::Exception => "Exception",
+            EventKind::ExceptionCatch => "ExceptionCatch",
+            EventKind::SingleStep => "SingleStep",
+            EventKind::FramePop => "FramePop",
+            EventKind::Breakpoint => "Breakpoint",
+            EventKind::FieldAccess => "FieldAccess",
+            EventKind::FieldModification => "FieldModification",
+            EventKind::MethodEntry => "MethodEntry",
+            EventKind::MethodExit => "MethodExit",
+            EventKind::MonitorWait => "MonitorWait",
+            EventKind::MonitorWaited => "MonitorWaited",
+            EventKind::MonitorContendedEnter => "MonitorContendedEnter",
+            EventKind::MonitorContendedEntered => "MonitorContendedEntered",
+            EventKind::VMObjectAlloc => "VMObjectAlloc",
+        }
+    }
 }
