@@ -23,13 +23,12 @@ use Rattle.machine_state.specs.Jobs.{SetFieldAccessWatch, SetFieldModificationWa
 use Rattle.machine_state.specs.Jobs.{SuspendThread, ResumeThread, GetThreadState, GetStackTrace, NotifyFramePop, GetClassStatus, GetBytecodes}
 use Rattle.machine_state.specs.Jobs.{RetransformClasses, UseRules, AddTransformer, RemoveTransformer}
 use Rattle.machine_state.specs.Trace.{Trace, Place, Reply, Number, Bytes, Texts, CapsChanged, ModeSet, BreakSet, BreakCleared, WatchSet}
-use Rattle.machine_state.specs.Trace.{Tagged, PopAsked, SuspendSet, RulesChosen, TransformerAdded, TransformerRemoved, Retransformed, Replied}
+use Rattle.machine_state.specs.Trace.{Tagged, PopAsked, SuspendSet, RulesChosen, TransformerAdded, TransformerRemoved, Retransformed}
 use Rattle.machine_state.specs.Codes.{event_number}
-use Rattle.machine_state.specs.CallNames.{kind_of_call}
 use Rattle.machine_state.specs.Environments.{capabilities_of}
 use Rattle.machine_state.specs.Places.{has_breakpoint}
 use Rattle.machine_state.specs.Tags.{tag}
-use Rattle.machine_state.specs.Chains.{acting, chain}
+use Rattle.machine_state.specs.Chains.{acting, rules_do, chain}
 use Rattle.machine_state.specs.Versions.{Turns, left}
 use Rattle.machine_state.specs.Core.{StackFrame, thread_at, frames_at}
 use Rattle.machine_state.specs.Events.{place_text}
@@ -39,6 +38,7 @@ use Rattle.machine_state.specs.Statuses.{class_status, thread_state}
 use Rattle.machine_state.specs.Acts.{State, Act, Notes}
 use Rattle.machine_steps.specs.Throwing.{place_of}
 use Rattle.thread_frames.specs.declared.frame.StackEntry.TheVariants.{Java, Init}
+use Rattle.machine_steps.specs.World.{Answer}
 use Rattle.machine_steps.specs.Loading.{turn_notes}
 
 -- ---- what arguments mean
@@ -116,7 +116,7 @@ values_of job turns s env call actor = []
 -- a class is retransformed from the bytes that were kept
 abbrev pub retransforms : Job → Turns → Trace → Actor → Name → List Act
 retransforms job turns trace actor class =
-    turn_notes class (fold_from class 3 (chain job turns trace actor) (unwrap_or (left job turns class trace) [])).turns
+    turn_notes class (fold_from class 3 (chain job (rules_do turns) trace actor) (unwrap_or (left job turns class trace) [])).turns
 
 -- the births of a thread's frames of methods, the top first
 abbrev pub birth_of : StackFrame → List ℕ
@@ -160,15 +160,16 @@ made_by job turns s env call actor = []
 -- ---- answers
 
 -- DUPLICATE for a breakpoint that is there, and NOT_FOUND for one that isn't
-abbrev pub refusal : State → Call → Option ErrorCode
-refusal s (SetBreakpoint class method desc at) = if has_breakpoint s.trace (place_at class method desc at) then Some errors.Duplicate else None
-refusal s (ClearBreakpoint class method desc at) = if has_breakpoint s.trace (place_at class method desc at) then None else Some errors.NotFound
-refusal s call = None
+abbrev pub refuses_of : State → EnvNo → Call → Actor → Option ErrorCode
+refuses_of s env (SetBreakpoint class method desc at) actor =
+    if has_breakpoint s.trace (place_at class method desc at) then Some errors.Duplicate else None
+refuses_of s env (ClearBreakpoint class method desc at) actor =
+    if has_breakpoint s.trace (place_at class method desc at) then None else Some errors.NotFound
+refuses_of s env call actor = None
 
-abbrev pub answered : Job → Turns → State → EnvNo → Call → Actor → Option ErrorCode → List Act
-answered job turns s env call actor (Some error) = Notes (Replied env (kind_of_call call) error []) ∷ []
-answered job turns s env call actor None =
-    made_by job turns s env call actor ++ Notes (Replied env (kind_of_call call) errors.None (values_of job turns s env call actor)) ∷ []
-
-abbrev pub answers_of : Job → Turns → State → EnvNo → Call → Actor → List Act
-answers_of job turns s env call actor = answered job turns s env call actor (refusal s call)
+abbrev pub answers_of : Job → Turns → State → EnvNo → Call → Actor → Answer
+answers_of job turns s env call actor = record {
+  code = errors.None;
+  values = values_of job turns s env call actor;
+  acts = made_by job turns s env call actor;
+}

@@ -12,11 +12,11 @@ use Rattle.machine_state.specs.Jobs.{Job, Native, Constant, AddCapabilities, Set
 use Rattle.machine_state.specs.Versions.{Turns}
 use Rattle.machine_steps.specs.World.{World}
 use Rattle.machine_rows.specs.Rows.{job_of, thread, IsRow}
-use Rattle.machine_rows.specs.AgentCalls.{answers_of}
+use Rattle.machine_rows.specs.AgentCalls.{refuses_of, answers_of}
 
 -- a job with an agent, and what the agent's calls and its rules do
 abbrev pub with_agent : jobs.Agent → Turns → Job → World
-with_agent agent turns job = let whole = record job { agents = agent ∷ [] } in record { job = whole; turns = turns; answers = answers_of whole turns }
+with_agent agent turns job = let whole = record job { agents = agent ∷ [] } in record { job = whole; turns = turns; refuses = refuses_of; answers = answers_of whole turns }
 
 -- ---- retransform while running
 

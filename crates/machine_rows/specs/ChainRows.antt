@@ -10,12 +10,12 @@ use Rattle.machine_state.specs.Jobs.{Job, Native, Constant, WholeFile, AddCapabi
 use Rattle.machine_state.specs.Versions.{Turns}
 use Rattle.machine_steps.specs.World.{World}
 use Rattle.machine_rows.specs.Rows.{job_of, thread, IsRow}
-use Rattle.machine_rows.specs.AgentCalls.{answers_of}
+use Rattle.machine_rows.specs.AgentCalls.{refuses_of, answers_of}
 use Rattle.machine_rows.specs.AgentRows.{loop_file, loop_turns}
 
 -- a job with these agents, and what their calls and rules do
 abbrev pub with_agents : List jobs.Agent → Turns → Job → World
-with_agents agents turns job = let whole = record job { agents = agents } in record { job = whole; turns = turns; answers = answers_of whole turns }
+with_agents agents turns job = let whole = record job { agents = agents } in record { job = whole; turns = turns; refuses = refuses_of; answers = answers_of whole turns }
 
 abbrev pub loop_job : Job
 loop_job = job_of (codes "Loop") (record { name = codes "Loop"; bytes = loop_file } ∷ []) 1000

@@ -5,6 +5,7 @@ use Rattle.job_words.specs.Options.{Word}
 use Rattle.job_words.specs.declared.agent_fault.AgentFault.{AgentFault}
 use Rattle.job_words.specs.declared.agent_fault.AgentFault.TheVariants.{Syntax, Missing, Unknown, Kind, TooMany}
 use Rattle.job_words.specs.Fetches.{Files}
+use Rattle.machine_steps.specs.World.{AgentReading}
 use Rattle.machine_steps.specs.Results.{result_of}
 use Rattle.machine_rows.specs.RefusedRows.{line_of, stored, file, run_add, class, each, whole}
 
@@ -24,7 +25,7 @@ agent_files = stored (whole ++ file (codes "a.toml") agent_text)
 -- Where a reader finds this fault in the file, being told of so many donors, the words are refused with this line.
 abbrev pub IsAgentRefused : List Word → ℕ → AgentFault → List ℕ → Type 0
 IsAgentRefused words donors fault text =
-    (read_agent : List ℕ → ℕ → Result Agent AgentFault) → read_agent agent_text donors ≡ Err fault → line_of (result_of read_agent words agent_files) ≡ Some text
+    (read_agent : AgentReading) → read_agent agent_text donors ≡ Err fault → line_of (result_of read_agent words agent_files) ≡ Some text
 
 pub record AgentsRefused : Type 0 where
   pub no_toml : IsAgentRefused with_agent 0 Syntax (codes "refused agent 1 syntax\n")

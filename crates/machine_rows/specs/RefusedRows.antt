@@ -6,6 +6,7 @@ use Rattle.job_words.specs.declared.agent_fault.AgentFault.{AgentFault}
 use Rattle.job_words.specs.Refusals.{refusal_text}
 use Rattle.job_words.specs.Fetches.{Admitted, Failed, Files, steady}
 use Rattle.machine_steps.specs.Results.{Task, RunTask, ReplayTask, MakeTask, result_of}
+use Rattle.machine_steps.specs.World.{AgentReading}
 use Rattle.machine_steps.specs.Written.{replay_refusal}
 use Rattle.machine_rows.specs.Rows.{add_add, world_of}
 
@@ -36,7 +37,7 @@ line_of (Err refusal) = Some (refusal_text refusal)
 
 -- These words are refused with this line, whatever reads agent files.
 abbrev pub IsRefused : List Word → Files → List ℕ → Type 0
-IsRefused words files text = (read_agent : List ℕ → ℕ → Result Agent AgentFault) → line_of (result_of read_agent words files) ≡ Some text
+IsRefused words files text = (read_agent : AgentReading) → line_of (result_of read_agent words files) ≡ Some text
 
 -- ---- words
 
@@ -153,7 +154,7 @@ abbrev pub scheduled : List ℕ → Files
 scheduled text = stored (whole ++ file (codes "schedule.txt") text)
 
 abbrev pub IsReplayRefused : List ℕ → List ℕ → Type 0
-IsReplayRefused schedule text = (read_agent : List ℕ → ℕ → Result Agent AgentFault) → replay_line (result_of read_agent (replay_add (codes "schedule.txt")) (scheduled schedule)) ≡ Some text
+IsReplayRefused schedule text = (read_agent : AgentReading) → replay_line (result_of read_agent (replay_add (codes "schedule.txt")) (scheduled schedule)) ≡ Some text
 
 pub record SchedulesRefused : Type 0 where
   -- two neighbouring runs of one actor

@@ -1,6 +1,7 @@
 -- Worked rows: class files, and what their runs report.
 use Rattle.std.specs.Prelude.{◌≡◌, ℕ, List, [], ◌∷◌, ◌++◌, Some, None, codes, replicate}
 use Rattle.ti_ids.specs.declared.actor.End.{End}
+use Rattle.ti_codes.specs.declared.error.ErrorCode.TheVariants as errors
 use Rattle.ti_ids.specs.declared.actor.End.TheVariants.{Dead, Stuck}
 use Rattle.machine_steps.specs.Ends.{end}
 use Rattle.machine_steps.specs.Replay.{state}
@@ -23,7 +24,7 @@ job_of main files slice = record {
 
 -- without agents
 abbrev pub world_of : Job → World
-world_of job = record { job = job; turns = λ env set class bytes. None; answers = λ s env call actor. [] }
+world_of job = record { job = job; turns = λ env set class bytes. None; refuses = λ s env call actor. None; answers = λ s env call actor. record { code = errors.None; values = []; acts = [] } }
 
 abbrev pub thread : ℕ → Actor
 thread n = Thread (record { 0 = n })

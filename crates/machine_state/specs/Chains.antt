@@ -40,8 +40,8 @@ registration_change _ = None
 abbrev pub added : Trace → List Registered
 added trace = registered (changes_in registration_change trace)
 
-abbrev pub java_turn : Turns → Registered → Active Does
-java_turn turns r = record { group = java_group r.capable; env = r.env; set = Some r.set; transformer = rules_do turns r.env (Some r.set) }
+abbrev pub java_turn : {T : Type 0} → (EnvNo → Option Name → T) → Registered → Active T
+java_turn by r = record { group = java_group r.capable; env = r.env; set = Some r.set; transformer = by r.env (Some r.set) }
 
 -- ---- hooks: environments of which ClassFileLoadHook is on
 
@@ -51,26 +51,27 @@ acting Vm = None
 acting (Thread t) = Some t
 acting (Agent env) = None
 
-abbrev pub hook_turn : Turns → Trace → EnvNo → Bool → Active Does
-hook_turn turns trace env capable =
-    let set = rules_of trace env in record { group = hook_group capable; env = env; set = set; transformer = rules_do turns env set }
+abbrev pub hook_turn : {T : Type 0} → (EnvNo → Option Name → T) → Trace → EnvNo → Bool → Active T
+hook_turn by trace env capable =
+    let set = rules_of trace env in record { group = hook_group capable; env = env; set = set; transformer = by env set }
 
 -- that of a hook of this class, where it has one
-abbrev pub hook_by : Turns → Trace → EnvNo → HookClass → List (Active Does)
-hook_by turns trace env Unset = []
-hook_by turns trace env Capable = hook_turn turns trace env true ∷ []
-hook_by turns trace env Incapable = hook_turn turns trace env false ∷ []
+abbrev pub hook_by : {T : Type 0} → (EnvNo → Option Name → T) → Trace → EnvNo → HookClass → List (Active T)
+hook_by by trace env Unset = []
+hook_by by trace env Capable = hook_turn by trace env true ∷ []
+hook_by by trace env Incapable = hook_turn by trace env false ∷ []
 
-module _ (job : Job) (turns : Turns) (trace : Trace) (actor : Actor) where
+-- Each has a transformer of this set of this environment: what its rules make of a class, or anything else that says which rules they are.
+module _ {T : Type 0} (job : Job) (by : EnvNo → Option Name → T) (trace : Trace) (actor : Actor) where
   -- that of an environment, where the event is on for the actor
-  abbrev pub hooks_of : EnvNo → List (Active Does)
-  hooks_of env = if mask trace env kinds.ClassFileLoadHook (acting actor) then hook_by turns trace env (hook_class job trace env) else []
+  abbrev pub hooks_of : EnvNo → List (Active T)
+  hooks_of env = if mask trace env kinds.ClassFileLoadHook (acting actor) then hook_by by trace env (hook_class job trace env) else []
 
   -- those of so many environments, from this number on
-  abbrev pub hooks_from : ℕ → List jobs.Agent → List (Active Does)
+  abbrev pub hooks_from : ℕ → List jobs.Agent → List (Active T)
   hooks_from n [] = []
   hooks_from n (agent ∷ agents) = hooks_of (record { 0 = n }) ++ hooks_from (n + 1) agents
 
   -- all of them, by groups
-  abbrev pub chain : List (Active Does)
-  chain = in_groups (map (java_turn turns) (added trace) ++ hooks_from 1 job.agents)
+  abbrev pub chain : List (Active T)
+  chain = in_groups (map (java_turn by) (added trace) ++ hooks_from 1 job.agents)

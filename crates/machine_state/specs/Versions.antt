@@ -8,7 +8,7 @@ use Rattle.transform_chain.specs.Groups.{up_to_group, from_group}
 use Rattle.transform_chain.specs.Turns.{Does, folded}
 use Rattle.machine_state.specs.Jobs.{Job}
 use Rattle.machine_state.specs.Trace.{Record, Trace, Loaded, Redefined, Retransformed}
-use Rattle.machine_state.specs.Chains.{chain}
+use Rattle.machine_state.specs.Chains.{rules_do, chain}
 pub use Rattle.machine_state.specs.Chains.{Turns}
 
 -- a version: the bytes that were kept when it was made, from which a retransformation begins, and its own bytes
@@ -36,8 +36,8 @@ module _ (job : Job) (turns : Turns) (class : Name) where
   -- The version that a record behind these makes, where these bytes were kept, by the transformers that are active before the record. What
   -- those that aren't capable of retransformation leave of given bytes is kept.
   abbrev pub version_made : Trace → Actor → List ℕ → Making → Option Version
-  version_made before actor kept (Given bytes) = let ts = chain job turns before actor in Some (version_of ts (folded class (up_to_group 2 ts) bytes))
-  version_made before actor kept Again = Some (version_of (chain job turns before actor) kept)
+  version_made before actor kept (Given bytes) = let ts = chain job (rules_do turns) before actor in Some (version_of ts (folded class (up_to_group 2 ts) bytes))
+  version_made before actor kept Again = Some (version_of (chain job (rules_do turns) before actor) kept)
   version_made before actor kept Nothing = None
 
   -- the versions that the rest of a trace makes, where these bytes were kept

@@ -9,7 +9,6 @@ use Rattle.ti_ids.specs.declared.limits.Limits.{Limits}
 use Rattle.jv_names.specs.Names.{Name}
 use Rattle.machine_state.specs.Jobs as jobs
 use Rattle.machine_state.specs.Jobs.{Job, File}
-use Rattle.job_words.specs.declared.agent_fault.AgentFault.{AgentFault}
 use Rattle.job_words.specs.declared.input_limit.InputLimit.{InputLimit}
 use Rattle.job_words.specs.declared.input_limit.InputLimit.TheVariants.{Classes, Donors, Agents, ClassBytes, AgentBytes, ScheduleBytes}
 use Rattle.job_words.specs.declared.refusal.Refusal.TheVariants.{Usage, TooLarge}
@@ -19,6 +18,7 @@ use Rattle.job_words.specs.Refusals.{most}
 use Rattle.job_words.specs.Fetches.{Admitted, ◌>>=◌, within, number_of_files, Files, fetched, totalled, Fetch, fetched_all, all_within, fetches, class_contents, donor_contents, agent_contents}
 use Rattle.job_words.specs.Contents.{class_name, class_names, schedule_in}
 use Rattle.machine_steps.specs.Results.{named, agent_file, agent_files, job_of, Task, RunTask, ReplayTask, MakeTask, task_of}
+use Rattle.machine_steps.specs.World.{AgentReading}
 use Rattle.machine_steps.specs.Bounds.{allows, IsBounded, IsBoundedTask, TasksAreBounded}
 
 -- ---- the numbers of accepted words
@@ -207,7 +207,7 @@ class_length place earlier (bytes ∷ others) names e =
     ap (λ (l : List Name). length (named l (bytes ∷ others))) (sym whole)
     ∙ ap (λ (n : ℕ). suc n) (class_length (place + 1) (a.value ∷ earlier) others b.value b.is)
 
-module _ (read_agent : List ℕ → ℕ → Result jobs.Agent AgentFault) where
+module _ (read_agent : AgentReading) where
   agents_length : (donors place : ℕ) (contents : List (List ℕ)) (agents : List jobs.Agent) → agent_files read_agent donors place contents ≡ Ok agents
       → length agents ≡ length contents
   agents_length donors place [] agents e = let none : [] ≡ agents = cc in ap (λ (l : List jobs.Agent). length l) (sym none)

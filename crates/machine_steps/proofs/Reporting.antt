@@ -74,8 +74,8 @@ by_answer meaning (Err refusal) it bounded e = sym (same_some (refused refusal) 
 by_answer meaning (Ok task) it bounded e = by_task meaning task it (bounded task refl) e
 
 pub written_is_written : WrittenIsWritten
-written_is_written read_agent meaning words files it e =
-    by_answer meaning (result_of read_agent words files) it (tasks_are_bounded read_agent words files) e
+written_is_written meaning words files it e =
+    by_answer meaning (result_of meaning.read_agent words files) it (tasks_are_bounded meaning.read_agent words files) e
 
 -- ---- replays
 

@@ -1,9 +1,8 @@
 -- What accepted words and files bound: each number by the option that gives it, and the numbers of files.
 use Rattle.std.specs.Prelude.{◌≡◌, ℕ, ◌≤◌, Bool, true, false, ◌&&◌, nat_le, List, length, find, bytes_eq, codes, Result, Ok}
 use Rattle.std.specs.Option.{option_map_or}
-use Rattle.machine_state.specs.Jobs as jobs
 use Rattle.machine_state.specs.Jobs.{Job}
-use Rattle.job_words.specs.declared.agent_fault.AgentFault.{AgentFault}
+use Rattle.machine_steps.specs.World.{AgentReading}
 use Rattle.job_words.specs.declared.input_limit.InputLimit.TheVariants.{Classes, Donors, Agents}
 use Rattle.job_words.specs.Options.{Word, Form, ClassName, FileName, NumberIn, choices}
 use Rattle.job_words.specs.Refusals.{most}
@@ -38,5 +37,5 @@ IsBoundedTask (MakeTask number size) = Unit {0}
 -- What is accepted is within its bounds.
 abbrev pub TasksAreBounded : Type 0
 TasksAreBounded =
-    (read_agent : List ℕ → ℕ → Result jobs.Agent AgentFault) (words : List Word) (files : Files) (task : Task)
+    (read_agent : AgentReading) (words : List Word) (files : Files) (task : Task)
     → result_of read_agent words files ≡ Ok task → IsBoundedTask task

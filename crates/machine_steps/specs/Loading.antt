@@ -17,7 +17,7 @@ use Rattle.transform_chain.specs.Turns.{fold_from}
 use Rattle.machine_state.specs.Jobs.{Job, bytes_of}
 use Rattle.machine_state.specs.Core.{Core, failure_of}
 use Rattle.machine_state.specs.Trace.{Turned, Loaded, LoadFailed, ClassLoad}
-use Rattle.machine_state.specs.Chains.{chain}
+use Rattle.machine_state.specs.Chains.{rules_do, chain}
 use Rattle.machine_state.specs.Linked.{tree_of, base_tree_of}
 use Rattle.machine_state.specs.Acts.{State, Act, Changes, Notes, AddsClass, Fails, raises}
 use Rattle.machine_steps.specs.World.{World}
@@ -160,7 +160,7 @@ load_ends core classes t name bytes notes false =
 abbrev pub loads : World → State → List Class → ThreadNo → Name → List Act
 loads w s classes t name =
     let bytes = bytes_given w.job name in
-    let all = fold_from name 1 (chain w.job w.turns s.trace (actors.Thread t)) bytes in
+    let all = fold_from name 1 (chain w.job (rules_do w.turns) s.trace (actors.Thread t)) bytes in
     load_ends s.core classes t name bytes (turn_notes name all.turns) (is_accepted name (tree_of bytes) (tree_of all.made))
 
 -- the step of a need to load a class; None where it is met

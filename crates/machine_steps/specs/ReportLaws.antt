@@ -2,11 +2,9 @@
 use Rattle.std.specs.Prelude.{◌≡◌, ℕ, List, Some, Result}
 use Rattle.ti_ids.specs.declared.actor.Actor.{Actor}
 use Rattle.report_text.specs.Stated.{stated}
-use Rattle.machine_state.specs.Jobs as jobs
 use Rattle.machine_state.specs.Jobs.{Job}
 use Rattle.machine_steps.specs.World.{World, Meaning, unsliced, world_of}
 use Rattle.machine_steps.specs.Picks.{picked}
-use Rattle.job_words.specs.declared.agent_fault.AgentFault.{AgentFault}
 use Rattle.job_words.specs.Options.{Word}
 use Rattle.job_words.specs.Fetches.{Files}
 use Rattle.machine_steps.specs.Results.{ReplayTask}
@@ -20,8 +18,8 @@ PickedIsReported = (slice : ℕ) (w : World) → IsBounded w.job → IsReported 
 -- Where there is no choice, what is written is what may be written.
 abbrev pub WrittenIsWritten : Type 0
 WrittenIsWritten =
-    (read_agent : List ℕ → ℕ → Result jobs.Agent AgentFault) (meaning : Meaning) (words : List Word) (files : Files) (it : Written)
-    → written read_agent meaning words files ≡ Some it → IsWritten read_agent meaning words files it
+    (meaning : Meaning) (words : List Word) (files : Files) (it : Written)
+    → written meaning words files ≡ Some it → IsWritten meaning words files it
 
 -- A replay of the schedule that the report of a run states writes the report again, with its status: whichever workers made the run, and
 -- also for a job with another slice.

@@ -5,7 +5,6 @@ use Rattle.std.specs.Prelude.{ℕ, ◌+◌, List, [], ◌∷◌, length, map, So
 use Rattle.std.specs.List.{zip}
 use Rattle.ti_ids.specs.declared.actor.Actor.{Actor}
 use Rattle.jv_names.specs.Names.{Name}
-use Rattle.job_words.specs.declared.agent_fault.AgentFault.{AgentFault}
 use Rattle.job_words.specs.declared.input_limit.InputLimit.TheVariants.{ScheduleBytes}
 use Rattle.job_words.specs.declared.refusal.Refusal.TheVariants.{Usage, BadAgent}
 use Rattle.job_words.specs.Options.{Word}
@@ -14,6 +13,7 @@ use Rattle.job_words.specs.Fetches.{Admitted, ◌>>=◌, number_of_files, Files,
 use Rattle.job_words.specs.Contents.{class_names, schedule_in}
 use Rattle.machine_state.specs.Jobs as jobs
 use Rattle.machine_state.specs.Jobs.{Job, File}
+use Rattle.machine_steps.specs.World.{AgentReading}
 
 pub data Task : Type 0 where
   -- with so many workers
@@ -27,7 +27,7 @@ abbrev pub named : List Name → List (List ℕ) → List File
 named names contents = map (λ file. record { name = file.0; bytes = file.1 }) (zip names contents)
 
 -- what an agent file says, where there are so many donors
-module _ (read_agent : List ℕ → ℕ → Result jobs.Agent AgentFault) where
+module _ (read_agent : AgentReading) where
   abbrev pub agent_file : ℕ → ℕ → List ℕ → Admitted jobs.Agent
   agent_file donors place bytes = elim (read_agent bytes donors) [ Err fault ↦ Err (BadAgent place fault) | Ok agent ↦ Ok agent ]
 

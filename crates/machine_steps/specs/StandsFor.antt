@@ -146,7 +146,8 @@ pub record StandsFor (w : World) (s : State) (p : Parts) : Type 0 where
   pub suspended : (t : ThreadNo) → p.suspended t ≡ is_suspended s.trace t
   pub steps : p.steps ≡ s.steps
   pub main : p.main ≡ w.job.main
-  pub limits : p.limits ≡ w.job.limits
+  -- but for the slice, of which a world knows nothing
+  pub limits : record p.limits { slice = 0 } ≡ record w.job.limits { slice = 0 }
   pub donors : p.donors ≡ w.job.donors
   pub agents : p.agents ≡ w.job.agents
 

@@ -5,7 +5,6 @@ use Rattle.ti_ids.specs.declared.actor.End.{End}
 use Rattle.ti_ids.specs.declared.actor.End.TheVariants as ends
 use Rattle.report_text.specs.declared.thread_line.ThreadLine.{ThreadLine}
 use Rattle.report_text.specs.declared.thread_line.ThreadLine.TheVariants as lines
-use Rattle.job_words.specs.declared.agent_fault.AgentFault.{AgentFault}
 use Rattle.job_words.specs.declared.refusal.Refusal.{Refusal}
 use Rattle.job_words.specs.declared.refusal.Refusal.TheVariants.{BadEntry}
 use Rattle.job_words.specs.declared.status.Status.{Status}
@@ -14,7 +13,6 @@ use Rattle.job_words.specs.Options.{Word}
 use Rattle.job_words.specs.Refusals.{refusal_text}
 use Rattle.job_words.specs.Statuses.{refusal_status}
 use Rattle.job_words.specs.Fetches.{Admitted, Files}
-use Rattle.machine_state.specs.Jobs as jobs
 use Rattle.machine_state.specs.Acts.{State}
 use Rattle.machine_steps.specs.World.{World, Meaning, world_of}
 use Rattle.machine_steps.specs.Ends.{end, is_enabled}
@@ -94,9 +92,9 @@ abbrev pub IsWrittenBy : Meaning → Admitted Task → Written → Type 0
 IsWrittenBy meaning (Err refusal) it = it ≡ refused refusal
 IsWrittenBy meaning (Ok task) it = IsWrittenOf meaning task it
 
--- What is written of words and files, where an agent file says what `read_agent` says.
-abbrev pub IsWritten : (List ℕ → ℕ → Result jobs.Agent AgentFault) → Meaning → List Word → Files → Written → Type 0
-IsWritten read_agent meaning words files it = IsWrittenBy meaning (result_of read_agent words files) it
+-- What is written of words and files.
+abbrev pub IsWritten : Meaning → List Word → Files → Written → Type 0
+IsWritten meaning words files it = IsWrittenBy meaning (result_of meaning.read_agent words files) it
 
 -- ---- where there is no choice: with one worker, and of a schedule that is given
 
@@ -110,5 +108,5 @@ abbrev pub written_by : Meaning → Admitted Task → Option Written
 written_by meaning (Err refusal) = Some (refused refusal)
 written_by meaning (Ok task) = written_of meaning task
 
-abbrev pub written : (List ℕ → ℕ → Result jobs.Agent AgentFault) → Meaning → List Word → Files → Option Written
-written read_agent meaning words files = written_by meaning (result_of read_agent words files)
+abbrev pub written : Meaning → List Word → Files → Option Written
+written meaning words files = written_by meaning (result_of meaning.read_agent words files)
