@@ -20,8 +20,7 @@ use Rattle.thread_frames.specs.Frame.{new_frame, frame_words}
 use Rattle.thread_frames.specs.ThreadStack.{most_frames, most_words, stack_words}
 use Rattle.bytecode_local.specs.Kinds.{is_kind}
 use Rattle.link_versions.specs.Classes.{Class, class_at, newest_version, version_at}
-use Rattle.link_versions.specs.Members.{method_name, method_desc}
-use Rattle.link_versions.specs.ReadyCode.{method_in}
+use Rattle.link_versions.specs.Members.{method_name, method_desc, method_in}
 use Rattle.machine_state.specs.Core.{Pin, MethodFrame, StackFrame}
 use Rattle.machine_state.specs.Trace.{MethodName}
 use Rattle.machine_state.specs.Acts.{Act, Changes, SetsTop}

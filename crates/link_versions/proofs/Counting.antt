@@ -19,11 +19,11 @@ length-with_numbered : {A : Type 0} (f : A → A) (xs : List A) (n : ℕ) → le
 length-with_numbered f [] n = refl
 length-with_numbered f (x ∷ xs) n = grind (arith, nat_tests, length-with_numbered f xs n)
 
-numbered-changed : {A : Type 0} (f : A → A) (xs : List A) (n : ℕ) → numbered (with_numbered f xs n) n ≡ option_map f (numbered xs n)
+pub numbered-changed : {A : Type 0} (f : A → A) (xs : List A) (n : ℕ) → numbered (with_numbered f xs n) n ≡ option_map f (numbered xs n)
 numbered-changed f [] n = refl
 numbered-changed f (x ∷ xs) n = grind (arith, nat_tests, numbered-changed f xs n, length-with_numbered f xs n)
 
-numbered-other : {A : Type 0} (f : A → A) (xs : List A) (n m : ℕ) → (m ≡ n → ⊥) → numbered (with_numbered f xs n) m ≡ numbered xs m
+pub numbered-other : {A : Type 0} (f : A → A) (xs : List A) (n m : ℕ) → (m ≡ n → ⊥) → numbered (with_numbered f xs n) m ≡ numbered xs m
 numbered-other f [] n m other = refl
 numbered-other f (x ∷ xs) n m other = grind (arith, nat_tests, numbered-other f xs n m other, length-with_numbered f xs n)
 

@@ -25,7 +25,7 @@ use Rattle.link_versions.proofs.Changed.{classes_of-changed_at, class_of-with_ad
 
 -- ---- the entry of a class
 
-inside : {A : Type 0} (xs : List A) (i : ℕ) → i < length xs → (x : A) × (slice_get xs i ≡ Some x)
+pub inside : {A : Type 0} (xs : List A) (i : ℕ) → i < length xs → (x : A) × (slice_get xs i ≡ Some x)
 inside [] i low = absurd (omega arith)
 inside (x ∷ xs) zero low = (x, refl)
 inside (x ∷ xs) (suc i) low = inside xs i (omega arith)

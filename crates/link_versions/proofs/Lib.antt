@@ -14,5 +14,8 @@ pub mod Coded
 pub mod RisingCode
 pub mod Tables
 pub mod Newest
+pub mod Numbers
 pub mod Installing
+pub mod ByNumber
+pub mod NumberLaws
 pub mod ArrayEntries

@@ -13,7 +13,7 @@ use Rattle.link_versions.specs.Changes.{Keeps, CanInstall, IsOfKind}
 use Rattle.link_versions.specs.Entries.{kind_of, class_of, classes_of, AreSound, IsTable}
 use Rattle.link_versions.proofs.Held.{first_version-some, version_at-some, version_at-none}
 
-Keeps-refl : (t : Tree) → Keeps t t
+pub Keeps-refl : (t : Tree) → Keeps t t
 Keeps-refl t = record { name = refl; parent = refl; interfaces = refl; flags = refl; fields = refl; methods = IsPermutation-refl _ }
 
 Keeps-trans : (a b c : Tree) → Keeps a b → Keeps b c → Keeps a c
@@ -31,7 +31,7 @@ all_of P [] i t all at = absurd cc
 all_of P (u ∷ ts) zero t all at = subst P (same_Some _ _ at) all.0
 all_of P (u ∷ ts) (suc i) t all at = all_of P ts i t all.1 at
 
-kept_at : (first : Tree) (later : List Tree) (i : ℕ) (t : Tree) → AllByRecursion (Keeps first) later → slice_get (first ∷ later) i ≡ Some t → Keeps first t
+pub kept_at : (first : Tree) (later : List Tree) (i : ℕ) (t : Tree) → AllByRecursion (Keeps first) later → slice_get (first ∷ later) i ≡ Some t → Keeps first t
 kept_at first later zero t all at = subst (Keeps first) (same_Some _ _ at) (Keeps-refl first)
 kept_at first later (suc i) t all at = all_of (Keeps first) later i t all at
 
@@ -45,7 +45,7 @@ of_kind older c (OfFile []) place t k at = absurd k
 of_kind older c (OfFile (first ∷ later)) place t k at = record { first = first; is_first = refl; keeps = kept_at first later place t k.keep at }
 of_kind older c (OfArray dimensions e) place t k at = absurd cc
 
-record HasKind (e : Entry) : Type 0 where
+pub record HasKind (e : Entry) : Type 0 where
   pub older : List Class
   pub kind : IsOfKind older (class_of e) (kind_of e.kind)
 
@@ -57,7 +57,7 @@ has_kind (r ∷ rs) n e sound found = by (n == length (r ∷ rs)) refl (has_kind
     by true t rest = subst HasKind (same_Some _ _ (sym (cond-true (n == length (r ∷ rs)) (Some r) (numbered rs n) t) ∙ found)) (record { older = map class_of rs; kind = sound.0.lawful.kind })
     by false t rest = rest (sym (cond-false (n == length (r ∷ rs)) (Some r) (numbered rs n) t) ∙ found)
 
-kind_held : (es : List Entry) (n : ℕ) (e : Entry) → IsTable es → numbered (reverse es) n ≡ Some e → HasKind e
+pub kind_held : (es : List Entry) (n : ℕ) (e : Entry) → IsTable es → numbered (reverse es) n ≡ Some e → HasKind e
 unfolding IsTable
 kind_held es n e table found = has_kind (reverse es) n e table found
 

@@ -58,8 +58,12 @@ abbrev pub versions_of : Kind → List Tree
 versions_of (OfFile versions) = versions
 versions_of (OfArray dimensions element) = []
 
--- Every version of a class has the fields, the methods and the flags of the first one: that is the condition of a new version.
--- So the first one tells what a class declares, and its methods' order numbers them.
+-- the versions of the class of a number
+abbrev pub versions_in : List Class → ClassNo → List Tree
+versions_in classes n = option_map_or (λ c. versions_of c.kind) (class_at classes n) []
+
+-- Every version of a class has the fields and the flags of the first one: that is the condition of a new version. So the first
+-- one tells which fields a class declares, and their order numbers them.
 unfoldable pub first_version : List Class → ClassNo → Option Tree
 first_version classes n = option_and_then (λ c. slice_get (versions_of c.kind) 0) (class_at classes n)
 

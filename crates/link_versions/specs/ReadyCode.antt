@@ -1,6 +1,6 @@
 -- A method's list of instructions, made ready for running: what loads an Integer or a Long of the constant pool pushes it itself
 -- (JVM specification 6.5, `ldc`, `ldc_w` and `ldc2_w`).
-use Rattle.std.specs.Prelude.{ℕ, ◌<◌, ◌^◌, ℤ, List, length, map, IsSome, IfSome, Option, Some, None, option_map, position, slice_get, if◌then◌else◌}
+use Rattle.std.specs.Prelude.{ℕ, ◌<◌, ◌^◌, ℤ, List, length, map, IsSome, IfSome, Option, Some, None, option_map, if◌then◌else◌}
 use Rattle.std.specs.Option.{option_and_then}
 use Rattle.ti_ids.specs.declared.number.VersionNo.{VersionNo}
 use Rattle.ti_ids.specs.declared.number.MethodNo.{MethodNo}
@@ -13,9 +13,9 @@ use Rattle.class_tree.specs.declared.pool.Const.{Const}
 use Rattle.class_tree.specs.declared.pool.Const.TheVariants as const
 use Rattle.class_tree.specs.declared.members.Member.{Member}
 use Rattle.class_tree.specs.Trees.{Tree}
-use Rattle.class_tree.specs.Tree.{entry_at, code_of, is_named}
+use Rattle.class_tree.specs.Tree.{entry_at, code_of}
 use Rattle.link_versions.specs.Classes.{Class, same_class, version_at}
-use Rattle.link_versions.specs.Members.{method_name, method_desc}
+use Rattle.link_versions.specs.Members.{method_name, method_desc, method_in}
 
 -- the number of an entry
 abbrev pub int_of : Option Const → Option ℤ
@@ -44,19 +44,15 @@ ready_list pool list = map (λ p. (p.0, ready pool p.1)) list
 unfoldable pub ready_code : List Const → Member → Option (List (ℕ × Instr))
 ready_code pool m = option_map (ready_list pool) (option_and_then (λ code. list_of code.bytes) (code_of m.attrs))
 
--- the method of a name and a descriptor in a version, where both are there
-abbrev pub method_in : Tree → Option Name → Option Name → Option Member
-method_in t (Some name) (Some desc) = option_and_then (λ place. slice_get t.methods place) (position (is_named t.pool name desc) t.methods)
-method_in t name desc = None
-
--- its code
+-- the code of the method of a name and a descriptor in a version
 abbrev pub code_named : Tree → Option Name → Option Name → Option (List (ℕ × Instr))
 code_named t name desc = option_and_then (ready_code t.pool) (method_in t name desc)
 
--- the code of a method in a version of its class, which may have the methods in another order than the first one
+-- the code of a method in a version of its class, which may have its methods in any order, and where it lacks the method has none
 unfoldable pub code_in : List Class → VersionNo → MethodNo → Option (List (ℕ × Instr))
 code_in classes v m =
-    if same_class v.class m.class then option_and_then (λ t. code_named t (method_name classes m) (method_desc classes m)) (version_at classes v) else None
+    if same_class v.class m.class then
+    option_and_then (λ t. code_named t (method_name classes m) (method_desc classes m)) (version_at classes v) else None
 
 -- the code of a method, if it has one, has a list; of a well-formed class, that of each method has
 unfoldable pub IsCoded : Member → Type 0

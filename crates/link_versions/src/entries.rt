@@ -1,10 +1,11 @@
 //! A class by its number, and what it declares.
-ghost use Rattle.std.specs.Prelude.{◌≡◌, reverse, option_copied, option_map, position, IfSome};
+ghost use Rattle.std.specs.Prelude.{◌≡◌, reverse, option_copied, option_map, position, slice_get, IfSome};
+ghost use Rattle.std.specs.Option.{option_and_then};
 ghost use Rattle.class_code.specs.Listing.{IsRising};
 ghost use Rattle.class_tree.specs.Tree.{is_named as has_names};
 ghost use Rattle.link_versions.specs.Classes.{numbered, version_at, version_count as count_of_versions, first_version as first_of_class, class_has as class_flag};
 ghost use Rattle.link_versions.specs.Orders.{lookup_order, superclasses};
-ghost use Rattle.link_versions.specs.Members.{declared_field as field_in, declared_method as method_in, method_at as member_at, method_name as name_of, method_desc as desc_of, method_has as method_flag, declared_virtual as virtual_in};
+ghost use Rattle.link_versions.specs.Members.{declared_field as field_in, declared_method as method_in, method_name as name_of, method_desc as desc_of, method_has as method_flag, declared_virtual as virtual_in};
 ghost use Rattle.link_versions.specs.ReadyCode.{code_in};
 ghost use Rattle.link_versions.specs.Entries.{classes_of, IsReady, IsTable};
 
@@ -130,44 +131,45 @@ pub(crate) fn declared_field(
     Some(FieldNo { class, place })
 }
 
-/// The method that a class declares.
-#[tactic(auto, unfolding(crate::specs::Members::declared_method))]
+/// The method that a class declares. Each version has the methods of the first one, so that one numbers them.
+#[tactic(auto, using(crate::proofs::ByNumber::declared_first))]
 pub(crate) fn declared_method(
     entries: &Table,
     name: &Units,
     desc: &Units,
     class: ClassNo,
 ) -> Option<MethodNo>
+    requires { IsTable entries.now }
     ensures { result ≡ method_in (classes_of entries.now) name.now desc.now class }
 {
     let place = method_place(first_version(entries, class)?, name, desc)?;
     Some(MethodNo { class, place })
 }
 
-/// A method in the file.
-#[tactic(auto, unfolding(crate::specs::Members::method_at))]
-fn method_at(entries: &Table, method: MethodNo) -> Option<&Member>
-    ensures { option_copied result ≡ member_at (classes_of entries.now) method }
+/// A method as the first version of its class has it.
+fn first_method(entries: &Table, method: MethodNo) -> Option<&Member>
+    ensures { option_copied result ≡ option_and_then (λ t. slice_get t.methods method.place) (first_of_class (classes_of entries.now) method.class) }
 {
     first_version(entries, method.class)?
         .methods
         .get(method.place as usize)
 }
 
-/// Whether a method has a flag.
-#[tactic(auto, unfolding(crate::specs::Members::method_has))]
+/// Whether a method has a flag, which no version of its class changes.
 pub(crate) fn method_has(entries: &Table, flag: Flag, method: MethodNo) -> bool
+    requires { IsTable entries.now }
     ensures { result ≡ method_flag (classes_of entries.now) flag method }
 {
-    match method_at(entries, method) {
+    match first_method(entries, method) {
         Some(member) => member.flags.has(flag),
         None => false,
     }
 }
 
 /// The name of a method.
-#[tactic(auto, unfolding(crate::specs::Members::method_name))]
+#[tactic(auto, using(crate::proofs::ByNumber::name_first))]
 pub(crate) fn method_name(entries: &Table, method: MethodNo) -> Option<&Units>
+    requires { IsTable entries.now }
     ensures { option_copied result ≡ name_of (classes_of entries.now) method }
 {
     let tree = first_version(entries, method.class)?;
@@ -175,8 +177,9 @@ pub(crate) fn method_name(entries: &Table, method: MethodNo) -> Option<&Units>
 }
 
 /// The descriptor of a method.
-#[tactic(auto, unfolding(crate::specs::Members::method_desc))]
+#[tactic(auto, using(crate::proofs::ByNumber::desc_first))]
 pub(crate) fn method_desc(entries: &Table, method: MethodNo) -> Option<&Units>
+    requires { IsTable entries.now }
     ensures { option_copied result ≡ desc_of (classes_of entries.now) method }
 {
     let tree = first_version(entries, method.class)?;
@@ -191,6 +194,7 @@ pub(crate) fn declared_virtual(
     desc: &Units,
     class: ClassNo,
 ) -> Option<MethodNo>
+    requires { IsTable entries.now }
     ensures { result ≡ virtual_in (classes_of entries.now) name.now desc.now class }
 {
     let method = declared_method(entries, name, desc, class)?;

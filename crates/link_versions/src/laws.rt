@@ -1,4 +1,4 @@
-ghost use Rattle.link_versions.specs.Laws.{IsInstalled, IsNewest, KeepsVersions, KeepsNumbers, KeepsOrders, KeepsSuperclasses, KeepsStates, KeepsClasses, IsDefined};
+ghost use Rattle.link_versions.specs.Laws.{IsInstalled, IsNewest, KeepsVersions, KeepsNumbers, KeepsOrders, KeepsSuperclasses, KeepsStates, KeepsMethodNumbers, IsDeclaredAs, LetsGo, LetsIn, KeepsClasses, IsDefined, IsNumbered};
 
 /// Does nothing, and is there for its contract: the laws of the lists of classes, of which the contracts of `Classes` speak.
 pub fn class_laws()
@@ -13,7 +13,14 @@ pub fn class_laws()
     ensures superclasses { KeepsSuperclasses }
     ensures states { KeepsStates }
 
-    // A defined class comes after those that are there, with its tree as its first version.
+    // A method's number stands for one name and descriptor, and the newest version tells which methods its class declares.
+    ensures method_numbers { KeepsMethodNumbers }
+    ensures declared { IsDeclaredAs }
+    ensures lets_go { LetsGo }
+    ensures lets_in { LetsIn }
+
+    // A defined class comes after those that are there, with its tree as its first version, which numbers its methods.
     ensures classes { KeepsClasses }
     ensures defined { IsDefined }
+    ensures numbered { IsNumbered }
 {}

@@ -63,6 +63,7 @@ fn candidate(
     desc: &Units,
     at: ClassNo,
 ) -> Option<MethodNo>
+    requires { IsTable entries.now }
     ensures { result ≡ candidate_in (classes_of entries.now) class name.now desc.now at }
 {
     if class_has(entries, Flag::Interface, at) && at.0 != class.0 {
@@ -215,7 +216,8 @@ fn from_object(
     name: &Units,
     desc: &Units,
 ) -> Option<MethodNo>
-    requires { object ≡ number_of (classes_of entries.now) object_name }
+    requires table { IsTable entries.now }
+    requires object { object ≡ number_of (classes_of entries.now) object_name }
     ensures { result ≡ in_object (classes_of entries.now) name.now desc.now }
 {
     let method = declared_method(entries, name, desc, object?)?;

@@ -193,7 +193,8 @@ impl Classes {
 
     /// The tree of a version, where there is one.
     ///
-    /// A method's number is its place in the first version of its class. A later one may have its methods in another order.
+    /// A method's number is its place among all names and descriptors that its class ever had. A later version may have its methods
+    /// in another order.
     pub fn tree(&self, version: VersionNo) -> Option<&ClassFile>
         ensures { option_copied result ≡ version_at self.now version }
     {

@@ -17,7 +17,7 @@ use Rattle.capability_set.specs.Held.{with_capabilities}
 use Rattle.transform_chain.specs.Turns.{fold_from}
 use Rattle.class_tree.specs.Trees.{Tree}
 use Rattle.class_tree.specs.Tree.{is_text, text_at, code_of}
-use Rattle.link_versions.specs.ReadyCode.{method_in}
+use Rattle.link_versions.specs.Members.{method_in}
 use Rattle.machine_state.specs.Jobs.{Job, Call, AddCapabilities, SetEventNotificationMode, SetBreakpoint, ClearBreakpoint}
 use Rattle.machine_state.specs.Jobs.{SetFieldAccessWatch, SetFieldModificationWatch, SetTag, GetTag, IterateThroughHeap}
 use Rattle.machine_state.specs.Jobs.{SuspendThread, ResumeThread, GetThreadState, GetStackTrace, NotifyFramePop, GetClassStatus, GetBytecodes}

@@ -1,6 +1,6 @@
 -- Lists of classes that differ only in how far their classes are, and lists with further classes before them.
 use Rattle.std.proofs.Common.{◌≡◌, ◌∙◌, ◌≤◌, ℕ, suc, ◌==◌, List, [], ◌∷◌, ◌++◌, length, ◌-◌, Option, Some, None, Bool, true, false, cond, refl, sym, ap, arith, length-append}
-use Rattle.std.specs.Prelude.{slice_get, option_map}
+use Rattle.std.specs.Prelude.{fold, slice_get, option_map}
 use Rattle.std.specs.Option.{option_and_then, option_map_or}
 use Rattle.std.proofs.lemmas.Bool.{eqb-true}
 use Rattle.ti_ids.specs.declared.number.ClassNo.{ClassNo}
@@ -9,10 +9,9 @@ use Rattle.ti_ids.specs.declared.number.MethodNo.{MethodNo}
 use Rattle.jv_names.specs.Names.{Name}
 use Rattle.jv_names.specs.declared.descriptor.FieldType.{FieldType}
 use Rattle.class_tree.specs.Trees.{Tree}
-use Rattle.link_versions.specs.Classes.{Class, Kind, OfFile, OfArray, numbered, number_of, versions_of, version_at, version_count, first_version, newest_version}
-use Rattle.link_versions.specs.Members.{method_name, method_desc}
+use Rattle.link_versions.specs.Classes.{Class, Kind, OfFile, OfArray, numbered, number_of, versions_of, version_at, version_count, newest_version}
+use Rattle.link_versions.specs.Members.{NameAndType, names_after, name_and_type_at, method_name, method_desc}
 use Rattle.link_versions.specs.ReadyCode.{code_in}
-use Rattle.class_tree.specs.Tree.{text_at}
 use Rattle.jv_names.specs.declared.descriptor.ElementType.{ElementType}
 use Rattle.jv_names.specs.declared.descriptor.ElementType.TheVariants as element_type
 use Rattle.link_versions.specs.Changes.{array_class, element_by}
@@ -179,24 +178,29 @@ pub count_kept : (cs ds : List Class) (n : ClassNo) → kind_at cs n.0 ≡ kind_
 unfolding version_count
 count_kept cs ds n e = count_by (numbered cs n.0) (numbered ds n.0) e
 
-pub first_kept : (cs ds : List Class) (n : ClassNo) → kind_at cs n.0 ≡ kind_at ds n.0 → first_version cs n ≡ first_version ds n
-unfolding first_version
-first_kept cs ds n e = at_by 0 (numbered cs n.0) (numbered ds n.0) e
-
 newest_kept : (cs ds : List Class) (n : ClassNo) → kind_at cs n.0 ≡ kind_at ds n.0 → newest_version cs n ≡ newest_version ds n
 newest_kept cs ds n e = ap (λ (k : ℕ). (let v : VersionNo = record { class = n; place = k - 1 } in v)) (count_kept cs ds n e)
 
-name_kept : (cs ds : List Class) (m : MethodNo) → first_version cs m.class ≡ first_version ds m.class → method_name cs m ≡ method_name ds m
-unfolding method_name
-name_kept cs ds m e = ap (λ (t : Option Tree). option_and_then (λ t. option_and_then (λ member. text_at t.pool member.name) (slice_get t.methods m.place)) t) e
+versions_by : (x y : Option Class) → option_map (λ c. c.kind) x ≡ option_map (λ c. c.kind) y
+    → option_map_or (λ c. versions_of c.kind) x [] ≡ option_map_or (λ c. versions_of c.kind) y []
+versions_by None None e = refl
+versions_by None (Some d) e = absurd cc
+versions_by (Some c) None e = absurd cc
+versions_by (Some c) (Some d) e = let same : c.kind ≡ d.kind = cc in ap (λ (k : Kind). versions_of k) same
 
-desc_kept : (cs ds : List Class) (m : MethodNo) → first_version cs m.class ≡ first_version ds m.class → method_desc cs m ≡ method_desc ds m
+-- the name and the descriptor that a number of a method stands for
+named_kept : (cs ds : List Class) (m : MethodNo) → kind_at cs m.class.0 ≡ kind_at ds m.class.0 → name_and_type_at cs m ≡ name_and_type_at ds m
+named_kept cs ds m e = ap (λ (vs : List Tree). slice_get (fold names_after [] vs) m.place) (versions_by (numbered cs m.class.0) (numbered ds m.class.0) e)
+
+name_kept : (cs ds : List Class) (m : MethodNo) → kind_at cs m.class.0 ≡ kind_at ds m.class.0 → method_name cs m ≡ method_name ds m
+unfolding method_name
+name_kept cs ds m e = ap (λ (x : Option NameAndType). option_and_then (λ x. x.0) x) (named_kept cs ds m e)
+
+desc_kept : (cs ds : List Class) (m : MethodNo) → kind_at cs m.class.0 ≡ kind_at ds m.class.0 → method_desc cs m ≡ method_desc ds m
 unfolding method_desc
-desc_kept cs ds m e = ap (λ (t : Option Tree). option_and_then (λ t. option_and_then (λ member. text_at t.pool member.desc) (slice_get t.methods m.place)) t) e
+desc_kept cs ds m e = ap (λ (x : Option NameAndType). option_and_then (λ x. x.1) x) (named_kept cs ds m e)
 
 pub code_kept : (cs ds : List Class) (n : ClassNo) (m : MethodNo) → kind_at cs n.0 ≡ kind_at ds n.0 → kind_at cs m.class.0 ≡ kind_at ds m.class.0
     → code_in cs (newest_version cs n) m ≡ code_in ds (newest_version ds n) m
 unfolding code_in
-code_kept cs ds n m e h =
-    let first = first_kept cs ds m.class h in
-    rw (newest_kept cs ds n e, version_kept cs ds (newest_version ds n) e, name_kept cs ds m first, desc_kept cs ds m first) refl
+code_kept cs ds n m e h = rw (newest_kept cs ds n e, version_kept cs ds (newest_version ds n) e, name_kept cs ds m h, desc_kept cs ds m h) refl

@@ -8,8 +8,8 @@ use Rattle.class_tree.specs.declared.members.Member.{Member}
 use Rattle.class_tree.specs.Trees.{Tree}
 use Rattle.class_tree.specs.Tree.{code_of}
 use Rattle.link_versions.specs.Classes.{Class, newest_version, version_at}
-use Rattle.link_versions.specs.Members.{method_name, method_desc}
-use Rattle.link_versions.specs.ReadyCode.{method_in, code_in}
+use Rattle.link_versions.specs.Members.{method_name, method_desc, method_in}
+use Rattle.link_versions.specs.ReadyCode.{code_in}
 use Rattle.machine_state.specs.Jobs.{Job}
 use Rattle.machine_state.specs.Core.{CoreClass, MethodFrame}
 use Rattle.machine_state.specs.Trace.{Trace}

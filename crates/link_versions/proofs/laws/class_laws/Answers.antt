@@ -1,4 +1,5 @@
 use Rattle.link_versions.proofs.Counting.{installed_there, installed_newest, versions_stay, numbers_stay, orders_stay, superclasses_stay, states_stay, classes_stay, defined_there}
+use Rattle.link_versions.proofs.NumberLaws.{method_numbers_stay, declared_as, lets_go, lets_in, defined_numbered}
 use Rattle.link_versions.proofs.laws.class_laws.Goals as goal
 
 pub returns-clause-installed : goal.returns-clause-installed
@@ -27,3 +28,18 @@ returns-clause-classes c = classes_stay
 
 pub returns-clause-defined : goal.returns-clause-defined
 returns-clause-defined c = defined_there
+
+pub returns-clause-method_numbers : goal.returns-clause-method_numbers
+returns-clause-method_numbers c = method_numbers_stay
+
+pub returns-clause-declared : goal.returns-clause-declared
+returns-clause-declared c = declared_as
+
+pub returns-clause-lets_go : goal.returns-clause-lets_go
+returns-clause-lets_go c = lets_go
+
+pub returns-clause-lets_in : goal.returns-clause-lets_in
+returns-clause-lets_in c = lets_in
+
+pub returns-clause-numbered : goal.returns-clause-numbered
+returns-clause-numbered c = defined_numbered
