@@ -1,7 +1,7 @@
 -- The tool calls that the agents of worked rows make, as far as each of them succeeds; a breakpoint that is set twice or isn't there is
 -- refused. What calls answer in general is not said here.
-use Rattle.std.specs.Prelude.{ℕ, zero, suc, ◌+◌, pos, Bool, true, false, ◌==◌, List, [], ◌∷◌, ◌++◌, length, find, fold, flat_map, slice_get}
-use Rattle.std.specs.Prelude.{Option, Some, None, unwrap_or, codes, decimal, if◌then◌else◌}
+use Rattle.std.specs.Prelude.{ℕ, ℤ, zero, suc, ◌+◌, pos, Bool, true, false, List, [], ◌∷◌, ◌++◌, length, find, fold, flat_map, slice_get}
+use Rattle.std.specs.Prelude.{Option, Some, None, unwrap_or, codes, if◌then◌else◌}
 use Rattle.std.specs.Option.{option_map_or}
 use Rattle.std.specs.Ordering.{int_eq}
 use Rattle.ti_ids.specs.Maybe.{◌>>=◌}
@@ -12,6 +12,7 @@ use Rattle.ti_codes.specs.declared.error.ErrorCode.{ErrorCode}
 use Rattle.ti_codes.specs.declared.error.ErrorCode.TheVariants as errors
 use Rattle.ti_codes.specs.declared.event.EventKind.{EventKind}
 use Rattle.ti_codes.specs.declared.event.EventKind.TheVariants as kinds
+use Rattle.ti_codes.specs.Events.{event_of_number}
 use Rattle.jv_names.specs.Names.{Name}
 use Rattle.capability_set.specs.Held.{with_capabilities}
 use Rattle.transform_chain.specs.Turns.{fold_from}
@@ -22,16 +23,15 @@ use Rattle.machine_state.specs.Jobs.{Job, Call, AddCapabilities, SetEventNotific
 use Rattle.machine_state.specs.Jobs.{SetFieldAccessWatch, SetFieldModificationWatch, SetTag, GetTag, IterateThroughHeap}
 use Rattle.machine_state.specs.Jobs.{SuspendThread, ResumeThread, GetThreadState, GetStackTrace, NotifyFramePop, GetClassStatus, GetBytecodes}
 use Rattle.machine_state.specs.Jobs.{RetransformClasses, UseRules, AddTransformer, RemoveTransformer}
-use Rattle.machine_state.specs.Trace.{Trace, Place, Reply, Number, Bytes, Texts, CapsChanged, ModeSet, BreakSet, BreakCleared, WatchSet}
+use Rattle.machine_state.specs.Trace.{Trace, Place, Number, Bytes, Numbers, Texts, Reply, CapsChanged, ModeSet, BreakSet, BreakCleared, WatchSet}
 use Rattle.machine_state.specs.Trace.{Tagged, PopAsked, SuspendSet, RulesChosen, TransformerAdded, TransformerRemoved, Retransformed}
-use Rattle.machine_state.specs.Codes.{event_number}
 use Rattle.machine_state.specs.Environments.{capabilities_of}
 use Rattle.machine_state.specs.Places.{has_breakpoint}
 use Rattle.machine_state.specs.Tags.{tag}
 use Rattle.machine_state.specs.Chains.{acting, rules_do, chain}
 use Rattle.machine_state.specs.Versions.{Turns, left}
 use Rattle.machine_state.specs.Core.{StackFrame, thread_at, frames_at}
-use Rattle.machine_state.specs.Events.{place_text}
+use Rattle.machine_state.specs.Events.{place_units}
 use Rattle.machine_state.specs.Linked.{linked, trees}
 use Rattle.machine_state.specs.Obsolete.{is_obsolete}
 use Rattle.machine_state.specs.Statuses.{class_status, thread_state}
@@ -43,16 +43,9 @@ use Rattle.machine_steps.specs.Loading.{turn_notes}
 
 -- ---- what arguments mean
 
--- the event of a number
-abbrev pub all_kinds : List EventKind
-all_kinds =
-    kinds.VMInit ∷ kinds.VMDeath ∷ kinds.ThreadStart ∷ kinds.ThreadEnd ∷ kinds.ClassFileLoadHook ∷ kinds.ClassLoad ∷ kinds.ClassPrepare
-    ∷ kinds.VMStart ∷ kinds.Exception ∷ kinds.ExceptionCatch ∷ kinds.SingleStep ∷ kinds.FramePop ∷ kinds.Breakpoint ∷ kinds.FieldAccess
-    ∷ kinds.FieldModification ∷ kinds.MethodEntry ∷ kinds.MethodExit ∷ kinds.MonitorWait ∷ kinds.MonitorWaited
-    ∷ kinds.MonitorContendedEnter ∷ kinds.MonitorContendedEntered ∷ kinds.VMObjectAlloc ∷ []
-
+-- the event of a number, which is one of an event's
 abbrev pub kind_numbered : ℕ → EventKind
-kind_numbered n = unwrap_or (find (λ k. event_number k == n) all_kinds) kinds.VMInit
+kind_numbered number = unwrap_or (event_of_number number) kinds.VMInit
 
 -- the thread of an argument, of which 0 is the acting one
 abbrev pub thread_meant : Actor → Option ℕ → Option ThreadNo
@@ -77,21 +70,21 @@ desc_of_field job turns s class field = unwrap_or (newest_tree job turns s class
 -- ---- values
 
 -- the frames of a thread, the top first, with `!` behind an obsolete one
-abbrev pub frame_text : Job → Turns → State → StackFrame → List (List ℕ)
+abbrev pub frame_text : Job → Turns → State → StackFrame → List Name
 frame_text job turns s (Init n) = []
 frame_text job turns s (Java f) =
-    let place = place_text (place_of (linked job turns s.trace s.core.classes) f) in
+    let place = place_units (place_of (linked job turns s.trace s.core.classes) f) in
     (place ++ (if is_obsolete job turns s.trace s.core.classes f then codes "!" else [])) ∷ []
 
-abbrev pub stack_texts : Job → Turns → State → Option ThreadNo → List (List ℕ)
+abbrev pub stack_texts : Job → Turns → State → Option ThreadNo → List Name
 stack_texts job turns s None = []
 stack_texts job turns s (Some t) = flat_map (frame_text job turns s) (frames_at s.core t)
 
 -- so many objects from this number on, without those that have a tag
-abbrev pub untagged_from : Trace → EnvNo → ℕ → ℕ → List (List ℕ)
+abbrev pub untagged_from : Trace → EnvNo → ℕ → ℕ → List ℤ
 untagged_from trace env n zero = []
 untagged_from trace env n (suc more) =
-    (if int_eq (tag trace env (record { 0 = n })) (pos 0) then decimal n ∷ [] else []) ++ untagged_from trace env (n + 1) more
+    (if int_eq (tag trace env (record { 0 = n })) (pos 0) then pos n ∷ [] else []) ++ untagged_from trace env (n + 1) more
 
 abbrev pub state_bits : State → Option ThreadNo → ℕ
 state_bits s thread = unwrap_or (thread >>= λ t. thread_at s.core t >>= λ found. Some (thread_state s.core s.trace t found)) 0
@@ -102,9 +95,9 @@ code_bytes job turns s class method desc =
     option_map_or (λ code. code.bytes) (newest_tree job turns s class >>= λ t. method_in t (Some method) (Some desc) >>= λ m. code_of m.attrs) []
 
 -- A walk through the heap leaves out what has a tag, as its filter 4 does, which is the one that rows have.
-abbrev pub values_of : Job → Turns → State → EnvNo → Call → Actor → List Reply
+abbrev pub values_of : Job → Turns → State → EnvNo → Call → Actor → Reply
 values_of job turns s env (GetTag object) actor = Number (tag s.trace env (record { 0 = object })) ∷ []
-values_of job turns s env (IterateThroughHeap filter class write) actor = Texts (untagged_from s.trace env 1 (length s.core.heap.objects)) ∷ []
+values_of job turns s env (IterateThroughHeap filter class write) actor = Numbers (untagged_from s.trace env 1 (length s.core.heap.objects)) ∷ []
 values_of job turns s env (GetThreadState thread) actor = Number (pos (state_bits s (thread_meant actor (Some thread)))) ∷ []
 values_of job turns s env (GetStackTrace thread) actor = Texts (stack_texts job turns s (thread_meant actor (Some thread))) ∷ []
 values_of job turns s env (GetClassStatus class) actor = Number (pos (unwrap_or (class_status s.core class) 0)) ∷ []

@@ -4,3 +4,4 @@ pub mod EnvironmentLaws
 pub mod LogLaws
 pub mod SharesStay
 pub mod BirthsApart
+pub mod CallLaws

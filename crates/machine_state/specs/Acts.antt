@@ -13,8 +13,7 @@ use Rattle.ti_ids.specs.declared.actor.Actor.{Actor}
 use Rattle.ti_ids.specs.declared.state.ThreadState.{ThreadState}
 use Rattle.ti_ids.specs.declared.state.ThreadState.TheVariants.{Unbegun}
 use Rattle.ti_codes.specs.declared.phase.Phase.{Phase}
-use Rattle.ti_codes.specs.declared.event.EventKind.{EventKind}
-use Rattle.ti_codes.specs.declared.event.EventKind.TheVariants as kinds
+use Rattle.ti_codes.specs.Events.{is_same_event}
 use Rattle.jv_names.specs.Names.{Name}
 use Rattle.java_heap.specs.declared.object.Object.{Object}
 use Rattle.java_heap.specs.Changes.{with_field, with_elem, with_side, with_more}
@@ -23,14 +22,14 @@ use Rattle.thread_frames.specs.ThreadStack.{pushed, popped}
 use Rattle.thread_frames.specs.declared.frame.StackEntry.TheVariants.{Java, Init}
 use Rattle.ti_ids.specs.declared.state.InitState.{InitState}
 use Rattle.machine_state.specs.Jobs as jobs
-use Rattle.machine_state.specs.Jobs.{Job, Call, SetTag, GetTag, AgentKind, Native, Callback, agent_at}
+use Rattle.machine_state.specs.Jobs.{Job, Call, AgentKind, Native, Callback, agent_at}
 use Rattle.ti_ids.specs.declared.state.Activity.{Activity}
 use Rattle.ti_ids.specs.declared.state.Activity.TheVariants.{Free}
 use Rattle.machine_state.specs.Core.{Core, CoreClass, MethodFrame, StackFrame, Thread, Pending, is_of_classes, failure_of, most_threads, with_thread, with_frames, with_class, with_monitor, with_queue, same_field}
 use Rattle.machine_state.specs.Trace.{Event, Record, Raised, Turned, Trace}
-use Rattle.machine_state.specs.Codes.{same_kind}
 use Rattle.machine_state.specs.Linked.{array_type}
-use Rattle.machine_state.specs.Events as events
+use Rattle.machine_state.specs.Events.{Told, told_by, told_by_hook, thread_of, class_of, object_of}
+use Rattle.machine_state.specs.CallArguments.{with_object}
 use Rattle.machine_state.specs.Chains.{acting}
 use Rattle.machine_state.specs.Logs.{is_addressed}
 
@@ -161,13 +160,6 @@ changed birth (TakesScript env) core = record core { scripts = counted_up core.s
 
 -- ---- records and the calls that they bring
 
--- what an event tells that a callback asks for
-pub record Told : Type 0 where
-  pub kind : EventKind
-  pub class : Option Name
-  pub thread : Option ThreadNo
-  pub object : Option ObjNo
-
 abbrev pub fits_class : Option Name → Option Name → Bool
 fits_class None class = true
 fits_class (Some wanted) class = option_map_or (bytes_eq wanted) class false
@@ -178,17 +170,15 @@ fits_thread (Some wanted) thread = option_map_or (λ t. wanted == t.0) thread fa
 
 -- A callback is for the event: its kind, and the class and the thread, where the callback names them.
 abbrev pub fits : Told → Callback → Bool
-fits told c = same_kind c.event told.kind && fits_class c.class told.class && fits_thread c.thread told.thread
+fits told c = is_same_event c.event told.kind && fits_class c.class (class_of told) && fits_thread c.thread (thread_of told)
 
 -- the object's number 0 stands for the event's object, where it has one
 abbrev pub object_for : Told → ℕ → ℕ
-object_for told zero = option_map_or (λ o. o.0) told.object 0
+object_for told zero = option_map_or (λ o. o.0) (object_of told) 0
 object_for told (suc n) = suc n
 
 abbrev pub call_for : Told → Call → Call
-call_for told (SetTag object tag) = SetTag (object_for told object) tag
-call_for told (GetTag object) = GetTag (object_for told object)
-call_for told call = call
+call_for told call = with_object (object_for told) call
 
 -- the calls that an environment's callbacks for the event make, in their order
 abbrev pub calls_for : EnvNo → Told → jobs.Agent → List Pending
@@ -204,10 +194,6 @@ event_calls trace event told n [] = []
 event_calls trace event told n (agent ∷ agents) =
     event_calls_of trace event told (record { 0 = n }) agent ++ event_calls trace event told (n + 1) agents
 
-abbrev pub told_by : Event → Told
-told_by event =
-    record { kind = events.kind_of event; class = events.class_of event; thread = events.thread_of event; object = events.object_of event }
-
 -- a hook's turn is an event of its environment; the turn of a transformer of `java.lang.instrument` has no callbacks
 abbrev pub turn_calls_in : EnvNo → Told → jobs.Agent → AgentKind → List Pending
 turn_calls_in env told agent Native = calls_for env told agent
@@ -221,7 +207,7 @@ turn_calls env told (Some agent) = turn_calls_in env told agent agent.kind
 abbrev pub calls_of : Job → Trace → Actor → Record → List Pending
 calls_of job trace actor (Raised event) = event_calls trace event (told_by event) 1 job.agents
 calls_of job trace actor (Turned env class set k n has_changed) =
-    turn_calls env (record { kind = kinds.ClassFileLoadHook; class = Some class; thread = acting actor; object = None }) (agent_at job env)
+    turn_calls env (told_by_hook (acting actor) class) (agent_at job env)
 calls_of job trace actor _ = []
 
 -- ---- acts

@@ -1,153 +1,124 @@
--- What an event tells: its kind, its thread, class and object, and the text of its line (JVM TI, "Event Index").
-use Rattle.std.specs.Prelude.{ℕ, List, [], ◌∷◌, ◌++◌, Option, Some, None, codes, decimal}
+-- What each event tells (JVM TI, "Event Index"): its kind, and its parts in the order of its line. Its thread, its place, its class and
+-- its object follow from them.
+use Rattle.std.specs.Prelude.{pos, List, [], ◌∷◌, ◌++◌, Option, Some, None, option_map, codes, decimal}
+use Rattle.std.specs.Option.{option_or}
 use Rattle.ti_ids.specs.declared.number.ThreadNo.{ThreadNo}
 use Rattle.ti_ids.specs.declared.number.ObjNo.{ObjNo}
 use Rattle.ti_codes.specs.declared.event.EventKind.{EventKind}
 use Rattle.ti_codes.specs.declared.event.EventKind.TheVariants as kinds
-use Rattle.jv_names.specs.Names.{Name, printed}
-use Rattle.machine_state.specs.Trace.{MethodName, Place, FieldName, Leaving, Returned, Threw, Event, VMStart, VMInit, VMDeath, ThreadStart, ThreadEnd, ClassLoad, ClassPrepare, Exception, ExceptionCatch, SingleStep, Breakpoint, MethodEntry, MethodExit, FramePop, FieldAccess, FieldModification, MonitorWait, MonitorWaited, MonitorContendedEnter, MonitorContendedEntered, VMObjectAlloc}
+use Rattle.jv_names.specs.Names.{Name}
+use Rattle.class_tree.specs.Tree.{first_of}
+use Rattle.machine_state.specs.Trace.{MethodName, Place, FieldName, Leaving, Returned, Threw, Item, Number, Text}
+use Rattle.machine_state.specs.Trace.{Event, VMStart, VMInit, VMDeath, ThreadStart, ThreadEnd, ClassLoad, ClassPrepare, Exception, ExceptionCatch}
+use Rattle.machine_state.specs.Trace.{SingleStep, Breakpoint, MethodEntry, MethodExit, FramePop, FieldAccess, FieldModification}
+use Rattle.machine_state.specs.Trace.{MonitorWait, MonitorWaited, MonitorContendedEnter, MonitorContendedEntered, VMObjectAlloc}
 
--- ---- what it is
+-- one thing that an event tells
+pub data Part : Type 0 where
+  OfThread : ThreadNo → Part
+  AtPlace : Place → Part
+  OfMethod : MethodName → Part
+  OfClass : Name → Part
+  OfObject : ObjNo → Part
+  OfField : FieldName → Part
+  Left : Leaving → Part
 
-abbrev pub kind_of : Event → EventKind
-kind_of VMStart = kinds.VMStart
-kind_of (VMInit t) = kinds.VMInit
-kind_of VMDeath = kinds.VMDeath
-kind_of (ThreadStart t) = kinds.ThreadStart
-kind_of (ThreadEnd t) = kinds.ThreadEnd
-kind_of (ClassLoad t class) = kinds.ClassLoad
-kind_of (ClassPrepare t class) = kinds.ClassPrepare
-kind_of (Exception t place class) = kinds.Exception
-kind_of (ExceptionCatch t place class) = kinds.ExceptionCatch
-kind_of (SingleStep t place) = kinds.SingleStep
-kind_of (Breakpoint t place) = kinds.Breakpoint
-kind_of (MethodEntry t method) = kinds.MethodEntry
-kind_of (MethodExit t method leaving) = kinds.MethodExit
-kind_of (FramePop t method leaving birth) = kinds.FramePop
-kind_of (FieldAccess t place field) = kinds.FieldAccess
-kind_of (FieldModification t place field) = kinds.FieldModification
-kind_of (MonitorWait t object) = kinds.MonitorWait
-kind_of (MonitorWaited t object) = kinds.MonitorWaited
-kind_of (MonitorContendedEnter t object) = kinds.MonitorContendedEnter
-kind_of (MonitorContendedEntered t object) = kinds.MonitorContendedEntered
-kind_of (VMObjectAlloc t object class) = kinds.VMObjectAlloc
+pub record Told : Type 0 where
+  pub kind : EventKind
+  pub parts : List Part
 
-abbrev pub thread_of : Event → Option ThreadNo
-thread_of VMStart = None
-thread_of (VMInit t) = Some t
-thread_of VMDeath = None
-thread_of (ThreadStart t) = Some t
-thread_of (ThreadEnd t) = Some t
-thread_of (ClassLoad t class) = Some t
-thread_of (ClassPrepare t class) = Some t
-thread_of (Exception t place class) = Some t
-thread_of (ExceptionCatch t place class) = Some t
-thread_of (SingleStep t place) = Some t
-thread_of (Breakpoint t place) = Some t
-thread_of (MethodEntry t method) = Some t
-thread_of (MethodExit t method leaving) = Some t
-thread_of (FramePop t method leaving birth) = Some t
-thread_of (FieldAccess t place field) = Some t
-thread_of (FieldModification t place field) = Some t
-thread_of (MonitorWait t object) = Some t
-thread_of (MonitorWaited t object) = Some t
-thread_of (MonitorContendedEnter t object) = Some t
-thread_of (MonitorContendedEntered t object) = Some t
-thread_of (VMObjectAlloc t object class) = Some t
+-- ---- a row an event
 
--- the class of its place, else of its method, else the class that it names
-abbrev pub class_of : Event → Option Name
-class_of VMStart = None
-class_of (VMInit t) = None
-class_of VMDeath = None
-class_of (ThreadStart t) = None
-class_of (ThreadEnd t) = None
-class_of (ClassLoad t class) = Some class
-class_of (ClassPrepare t class) = Some class
-class_of (Exception t place class) = Some place.method.class
-class_of (ExceptionCatch t place class) = Some place.method.class
-class_of (SingleStep t place) = Some place.method.class
-class_of (Breakpoint t place) = Some place.method.class
-class_of (MethodEntry t method) = Some method.class
-class_of (MethodExit t method leaving) = Some method.class
-class_of (FramePop t method leaving birth) = Some method.class
-class_of (FieldAccess t place field) = Some place.method.class
-class_of (FieldModification t place field) = Some place.method.class
-class_of (MonitorWait t object) = None
-class_of (MonitorWaited t object) = None
-class_of (MonitorContendedEnter t object) = None
-class_of (MonitorContendedEntered t object) = None
-class_of (VMObjectAlloc t object class) = Some class
+abbrev pub told_by : Event → Told
+told_by VMStart = record { kind = kinds.VMStart; parts = [] }
+told_by (VMInit t) = record { kind = kinds.VMInit; parts = OfThread t ∷ [] }
+told_by VMDeath = record { kind = kinds.VMDeath; parts = [] }
+told_by (ThreadStart t) = record { kind = kinds.ThreadStart; parts = OfThread t ∷ [] }
+told_by (ThreadEnd t) = record { kind = kinds.ThreadEnd; parts = OfThread t ∷ [] }
+told_by (ClassLoad t class) = record { kind = kinds.ClassLoad; parts = OfThread t ∷ OfClass class ∷ [] }
+told_by (ClassPrepare t class) = record { kind = kinds.ClassPrepare; parts = OfThread t ∷ OfClass class ∷ [] }
+told_by (Exception t place class) = record { kind = kinds.Exception; parts = OfThread t ∷ AtPlace place ∷ OfClass class ∷ [] }
+told_by (ExceptionCatch t place class) = record { kind = kinds.ExceptionCatch; parts = OfThread t ∷ AtPlace place ∷ OfClass class ∷ [] }
+told_by (SingleStep t place) = record { kind = kinds.SingleStep; parts = OfThread t ∷ AtPlace place ∷ [] }
+told_by (Breakpoint t place) = record { kind = kinds.Breakpoint; parts = OfThread t ∷ AtPlace place ∷ [] }
+told_by (MethodEntry t method) = record { kind = kinds.MethodEntry; parts = OfThread t ∷ OfMethod method ∷ [] }
+told_by (MethodExit t method leaving) = record { kind = kinds.MethodExit; parts = OfThread t ∷ OfMethod method ∷ Left leaving ∷ [] }
+told_by (FramePop t method leaving birth) = record { kind = kinds.FramePop; parts = OfThread t ∷ OfMethod method ∷ Left leaving ∷ [] }
+told_by (FieldAccess t place field) = record { kind = kinds.FieldAccess; parts = OfThread t ∷ AtPlace place ∷ OfField field ∷ [] }
+told_by (FieldModification t place field) = record { kind = kinds.FieldModification; parts = OfThread t ∷ AtPlace place ∷ OfField field ∷ [] }
+told_by (MonitorWait t object) = record { kind = kinds.MonitorWait; parts = OfThread t ∷ OfObject object ∷ [] }
+told_by (MonitorWaited t object) = record { kind = kinds.MonitorWaited; parts = OfThread t ∷ OfObject object ∷ [] }
+told_by (MonitorContendedEnter t object) = record { kind = kinds.MonitorContendedEnter; parts = OfThread t ∷ OfObject object ∷ [] }
+told_by (MonitorContendedEntered t object) = record { kind = kinds.MonitorContendedEntered; parts = OfThread t ∷ OfObject object ∷ [] }
+told_by (VMObjectAlloc t object class) = record { kind = kinds.VMObjectAlloc; parts = OfThread t ∷ OfObject object ∷ OfClass class ∷ [] }
 
-abbrev pub object_of : Event → Option ObjNo
-object_of VMStart = None
-object_of (VMInit t) = None
-object_of VMDeath = None
-object_of (ThreadStart t) = None
-object_of (ThreadEnd t) = None
-object_of (ClassLoad t class) = None
-object_of (ClassPrepare t class) = None
-object_of (Exception t place class) = None
-object_of (ExceptionCatch t place class) = None
-object_of (SingleStep t place) = None
-object_of (Breakpoint t place) = None
-object_of (MethodEntry t method) = None
-object_of (MethodExit t method leaving) = None
-object_of (FramePop t method leaving birth) = None
-object_of (FieldAccess t place field) = None
-object_of (FieldModification t place field) = None
-object_of (MonitorWait t object) = Some object
-object_of (MonitorWaited t object) = Some object
-object_of (MonitorContendedEnter t object) = Some object
-object_of (MonitorContendedEntered t object) = Some object
-object_of (VMObjectAlloc t object class) = Some object
+-- A hook's turn is an event too, and its line is that of the turn. It tells its class, and the thread that acts, if one does.
+abbrev pub acting_part : Option ThreadNo → List Part
+acting_part None = []
+acting_part (Some t) = OfThread t ∷ []
 
--- ---- its text
+abbrev pub told_by_hook : Option ThreadNo → Name → Told
+told_by_hook acting class = record { kind = kinds.ClassFileLoadHook; parts = acting_part acting ++ OfClass class ∷ [] }
 
-abbrev pub method_text : MethodName → List ℕ
-method_text m = printed m.class ++ codes "." ++ printed m.name ++ printed m.desc
+-- ---- what follows from the rows
 
-abbrev pub place_text : Place → List ℕ
-place_text p = method_text p.method ++ codes "@" ++ decimal p.pc
+abbrev pub as_thread : Part → Option ThreadNo
+as_thread (OfThread t) = Some t
+as_thread _ = None
 
-abbrev pub field_text : FieldName → List ℕ
-field_text f = printed f.class ++ codes "." ++ printed f.name
+abbrev pub as_place : Part → Option Place
+as_place (AtPlace place) = Some place
+as_place _ = None
 
-abbrev pub leaving_text : Leaving → List ℕ
-leaving_text Returned = codes "returned"
-leaving_text Threw = codes "threw"
+abbrev pub as_method : Part → Option MethodName
+as_method (OfMethod method) = Some method
+as_method _ = None
 
--- parts with one space before each
-abbrev pub spaced : List (List ℕ) → List ℕ
-spaced [] = []
-spaced (part ∷ parts) = codes " " ++ part ++ spaced parts
+abbrev pub as_class : Part → Option Name
+as_class (OfClass class) = Some class
+as_class _ = None
 
-abbrev pub thread_text : ThreadNo → List ℕ
-thread_text t = decimal t.0
+abbrev pub as_object : Part → Option ObjNo
+as_object (OfObject object) = Some object
+as_object _ = None
 
-abbrev pub object_text : ObjNo → List ℕ
-object_text o = decimal o.0
+abbrev pub thread_of : Told → Option ThreadNo
+thread_of told = first_of as_thread told.parts
 
--- the parts of an event's line behind its name
-abbrev pub parts_of : Event → List (List ℕ)
-parts_of VMStart = []
-parts_of (VMInit t) = thread_text t ∷ []
-parts_of VMDeath = []
-parts_of (ThreadStart t) = thread_text t ∷ []
-parts_of (ThreadEnd t) = thread_text t ∷ []
-parts_of (ClassLoad t class) = thread_text t ∷ printed class ∷ []
-parts_of (ClassPrepare t class) = thread_text t ∷ printed class ∷ []
-parts_of (Exception t place class) = thread_text t ∷ place_text place ∷ printed class ∷ []
-parts_of (ExceptionCatch t place class) = thread_text t ∷ place_text place ∷ printed class ∷ []
-parts_of (SingleStep t place) = thread_text t ∷ place_text place ∷ []
-parts_of (Breakpoint t place) = thread_text t ∷ place_text place ∷ []
-parts_of (MethodEntry t method) = thread_text t ∷ method_text method ∷ []
-parts_of (MethodExit t method leaving) = thread_text t ∷ method_text method ∷ leaving_text leaving ∷ []
-parts_of (FramePop t method leaving birth) = thread_text t ∷ method_text method ∷ leaving_text leaving ∷ []
-parts_of (FieldAccess t place field) = thread_text t ∷ place_text place ∷ field_text field ∷ []
-parts_of (FieldModification t place field) = thread_text t ∷ place_text place ∷ field_text field ∷ []
-parts_of (MonitorWait t object) = thread_text t ∷ object_text object ∷ []
-parts_of (MonitorWaited t object) = thread_text t ∷ object_text object ∷ []
-parts_of (MonitorContendedEnter t object) = thread_text t ∷ object_text object ∷ []
-parts_of (MonitorContendedEntered t object) = thread_text t ∷ object_text object ∷ []
-parts_of (VMObjectAlloc t object class) = thread_text t ∷ object_text object ∷ printed class ∷ []
+abbrev pub place_of : Told → Option Place
+place_of told = first_of as_place told.parts
+
+-- that of its place, else its own
+abbrev pub method_of : Told → Option MethodName
+method_of told = option_or (option_map (λ place. place.method) (place_of told)) (first_of as_method told.parts)
+
+-- that of its method, else the class that it names
+abbrev pub class_of : Told → Option Name
+class_of told = option_or (option_map (λ method. method.class) (method_of told)) (first_of as_class told.parts)
+
+abbrev pub object_of : Told → Option ObjNo
+object_of told = first_of as_object told.parts
+
+-- ---- its parts as items
+
+abbrev pub method_units : MethodName → Name
+method_units m = m.class ++ codes "." ++ m.name ++ m.desc
+
+abbrev pub place_units : Place → Name
+place_units p = method_units p.method ++ codes "@" ++ decimal p.pc
+
+abbrev pub field_units : FieldName → Name
+field_units f = f.class ++ codes "." ++ f.name
+
+abbrev pub leaving_units : Leaving → Name
+leaving_units Returned = codes "returned"
+leaving_units Threw = codes "threw"
+
+abbrev pub item_of : Part → Item
+item_of (OfThread t) = Number (pos t.0)
+item_of (AtPlace place) = Text (place_units place)
+item_of (OfMethod method) = Text (method_units method)
+item_of (OfClass class) = Text class
+item_of (OfObject object) = Number (pos object.0)
+item_of (OfField field) = Text (field_units field)
+item_of (Left leaving) = Text (leaving_units leaving)

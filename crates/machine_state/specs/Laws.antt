@@ -1,6 +1,6 @@
--- The laws of the state: what a frame runs, the tags, masks and logs of environments change only so.
+-- The laws of the state: what a frame runs, the tags, masks and logs of environments change only so. And those of calls.
 use Rattle.std.specs.Prelude.{◌≡◌, ℕ, ◌≤◌, ◌<◌, ℤ, pos, ◌==◌, Bool, true, false, not, ◌&&◌, ◌||◌}
-use Rattle.std.specs.Prelude.{List, [], ◌∷◌, ◌++◌, length, map, Some, None, IsSome}
+use Rattle.std.specs.Prelude.{List, [], ◌∷◌, ◌++◌, length, map, option_map, is_some, Some, None, IsSome}
 use Rattle.std.specs.List.{AllByRecursion}
 use Rattle.ti_ids.specs.declared.number.ClassNo.{ClassNo}
 use Rattle.ti_ids.specs.declared.number.EnvNo.{EnvNo}
@@ -11,7 +11,8 @@ use Rattle.ti_codes.specs.declared.event.EventKind.{EventKind}
 use Rattle.ti_codes.specs.Events.{is_same_event}
 use Rattle.jv_names.specs.Names.{Name}
 use Rattle.event_mask.specs.Settings.{Scope, same_scope, suffices}
-use Rattle.machine_state.specs.Jobs.{Job}
+use Rattle.machine_state.specs.Jobs.{Job, Call}
+use Rattle.machine_state.specs.CallArguments.{kind_of_call, object_given, with_object, takes_object}
 use Rattle.machine_state.specs.Core.{CoreClass, MethodFrame}
 use Rattle.machine_state.specs.Trace.{Record, Entry, Trace, ModeSet, CapsChanged, Tagged, Disposed, Raised, Turned, Replied}
 use Rattle.machine_state.specs.Environments.{same_environment, setting, mask}
@@ -103,3 +104,11 @@ pub record LogsGrow : Type 0 where
   pub only : (job : Job) (trace : Trace) (what : Record) (env : EnvNo) (text : List ℕ) → line_text job trace env what ≡ Some text
       → MayBeLogged trace env what
   pub all : (job : Job) (trace : Trace) (what : Record) (env : EnvNo) → MayBeLogged trace env what → IsSome (line_text job trace env what)
+
+-- ---- calls
+
+-- A call has an object exactly where its row names one. Where another number takes its place, the call stays what it is, and has that one.
+pub record ObjectsAreGiven : Type 0 where
+  pub named : (call : Call) → is_some (object_given call) ≡ takes_object (kind_of_call call)
+  pub replaced : (made : ℕ → ℕ) (call : Call) → object_given (with_object made call) ≡ option_map made (object_given call)
+  pub same_call : (made : ℕ → ℕ) (call : Call) → kind_of_call (with_object made call) ≡ kind_of_call call

@@ -1,8 +1,7 @@
 pub mod Jobs
 pub mod Core
 pub mod Trace
-pub mod Codes
-pub mod CallNames
+pub mod CallArguments
 pub mod Events
 pub mod Environments
 pub mod Chains

@@ -65,13 +65,17 @@ pub data Event : Type 0 where
 
 -- ---- replies
 
--- one value of a call's reply
-pub data Reply : Type 0 where
-  Number : ℤ → Reply
-  -- code, of which a line shows the first bytes
-  Bytes : List ℕ → Reply
-  -- items, of which a line shows the first ones
-  Texts : List (List ℕ) → Reply
+-- One item of a call's reply. Texts are held in their UTF-16 units, and are escaped only where they are printed.
+pub data Item : Type 0 where
+  Number : ℤ → Item
+  Text : Name → Item
+  Bytes : List ℕ → Item
+  -- lists, which are told with their lengths
+  Numbers : List ℤ → Item
+  Texts : List Name → Item
+
+abbrev pub Reply : Type 0
+Reply = List Item
 
 -- ---- records
 
@@ -108,7 +112,7 @@ pub data Record : Type 0 where
   -- A transformer's turn at a class: the set of rules in force, which turn it was of how many, and whether it changed the bytes.
   Turned : EnvNo → Name → Option Name → ℕ → ℕ → Bool → Record
   Raised : Event → Record
-  Replied : EnvNo → CallKind → ErrorCode → List Reply → Record
+  Replied : EnvNo → CallKind → ErrorCode → Reply → Record
 
 -- a record, with the number of steps before its own, and that step's actor
 pub record Entry : Type 0 where

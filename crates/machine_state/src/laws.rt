@@ -1,4 +1,4 @@
-ghost use Rattle.machine_state.specs.Laws.{KeepsCode, TagsStay, TagsAsSet, MasksAsSet, LogsGrow};
+ghost use Rattle.machine_state.specs.Laws.{KeepsCode, TagsStay, TagsAsSet, MasksAsSet, LogsGrow, ObjectsAreGiven};
 ghost use Rattle.machine_state.specs.Shares.{ChangesOnePart};
 ghost use Rattle.machine_state.specs.Births.{BirthsApart};
 
@@ -29,4 +29,10 @@ pub fn change_laws()
 
     // The core after acts is the same whichever birth the frames get that they push, but for births.
     ensures births { BirthsApart }
+{}
+
+/// Does nothing, and is there for its contract: the laws of calls.
+pub fn call_laws()
+    // A call has an object exactly where its row names one, and the object is all that changes where another takes its place.
+    ensures { ObjectsAreGiven }
 {}

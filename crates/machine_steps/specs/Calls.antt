@@ -6,7 +6,7 @@ use Rattle.ti_ids.specs.declared.actor.Actor.{Actor}
 use Rattle.ti_codes.specs.declared.error.ErrorCode.{ErrorCode}
 use Rattle.machine_state.specs.Jobs.{Call}
 use Rattle.machine_state.specs.Core.{Core, Pending, queue_of}
-use Rattle.machine_state.specs.CallNames.{kind_of_call}
+use Rattle.machine_state.specs.CallArguments.{kind_of_call}
 use Rattle.machine_state.specs.Trace.{Replied}
 use Rattle.machine_state.specs.Acts.{State, Act, Change, Changes, Notes, TakesCall, TakesScript, changed}
 use Rattle.machine_steps.specs.World.{World, Answer}

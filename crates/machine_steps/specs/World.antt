@@ -19,7 +19,7 @@ CallRefusals = State → EnvNo → Call → Actor → Option ErrorCode
 -- reply, which comes last.
 pub record Answer : Type 0 where
   pub code : ErrorCode
-  pub values : List Reply
+  pub values : Reply
   pub acts : List Act
 
 -- of a call that isn't refused so
