@@ -13,7 +13,7 @@ use Rattle.class_code.specs.declared.instr.PoolOp.TheVariants as pool_op
 use Rattle.class_tree.specs.declared.access.Flag.TheVariants as flags
 use Rattle.class_tree.specs.Tree.{first_of}
 use Rattle.java_heap.specs.Heaps as heap
-use Rattle.link_versions.specs.Classes.{Class, class_at, class_has, is_interface, same_class}
+use Rattle.link_versions.specs.Classes.{Class, class_at, class_has, is_interface, is_same_class}
 use Rattle.link_versions.specs.Members.{declared_method, method_has}
 use Rattle.link_versions.specs.Orders.{superclasses}
 use Rattle.link_versions.specs.Subtypes.{is_subclass}
@@ -98,7 +98,7 @@ is_init r = bytes_eq r.name (codes "<init>")
 
 -- a class is a superclass of another one
 abbrev pub is_above : List Class → ClassNo → ClassNo → Bool
-is_above classes n of = list_any (same_class n) (drop 1 (superclasses classes of))
+is_above classes n of = list_any (is_same_class n) (drop 1 (superclasses classes of))
 
 -- The selection starts at the direct superclass of the current class where that has the flag ACC_SUPER, the class that is named is a
 -- superclass of it, and the method is no `<init>`; else at the class that is named.
@@ -132,7 +132,7 @@ special_invoked x = when_allowed x (not (is_static x)) (λ values n. invokes_sel
 
 -- An `<init>` is one of the class that is named.
 abbrev pub invokes_special : Resolved → Outcome
-invokes_special x = if is_init x.reference && not (same_class x.method.class x.class) then no_method x.before else special_invoked x
+invokes_special x = if is_init x.reference && not (is_same_class x.method.class x.class) then no_method x.before else special_invoked x
 
 abbrev pub invoke_special : Site → ℕ → Outcome
 invoke_special site index = resolving site index invokes_special

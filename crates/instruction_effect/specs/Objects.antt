@@ -18,7 +18,7 @@ use Rattle.java_heap.specs.declared.object.Content.TheVariants.{Fields, Text}
 use Rattle.java_heap.specs.declared.object.TheConstants.{STRING, STRING_BUILDER}
 use Rattle.java_heap.specs.Objects.{fresh}
 use Rattle.java_heap.specs.Heaps as heaps
-use Rattle.link_versions.specs.Classes.{Class, same_class, first_version, number_of}
+use Rattle.link_versions.specs.Classes.{Class, is_same_class, first_version, number_of}
 use Rattle.link_versions.specs.Subtypes.{is_subclass}
 use Rattle.bytecode_local.specs.Changes.{Change, exchange}
 use Rattle.bytecode_local.specs.Kinds.{operand_at, reference_at}
@@ -33,7 +33,7 @@ use Rattle.instruction_effect.specs.Monitors.{entering}
 
 -- what a new instance of a class holds: a String or a StringBuilder no text, and every other one its fields
 abbrev pub new_content : List Class → ClassNo → Content
-new_content classes n = if same_class n STRING || same_class n STRING_BUILDER then Text [] else Fields (fresh_fields classes n)
+new_content classes n = if is_same_class n STRING || is_same_class n STRING_BUILDER then Text [] else Fields (fresh_fields classes n)
 
 -- a class of which there are instances: neither abstract nor an interface, nor of an array
 abbrev pub has_instances : List Class → ClassNo → Bool

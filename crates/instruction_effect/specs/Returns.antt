@@ -21,17 +21,17 @@ use Rattle.instruction_effect.specs.Arguments.{name_of_method, result_kind}
 
 -- ---- the result
 
-abbrev pub same_kind : Kind → Kind → Bool
-same_kind kind.Int kind.Int = true
-same_kind kind.Long kind.Long = true
-same_kind kind.Reference kind.Reference = true
-same_kind k l = false
+abbrev pub is_same_kind : Kind → Kind → Bool
+is_same_kind kind.Int kind.Int = true
+is_same_kind kind.Long kind.Long = true
+is_same_kind kind.Reference kind.Reference = true
+is_same_kind k l = false
 
 -- What a return instruction hands on, by what it returns and what the method's descriptor says: nothing, or the top of the stack.
 -- Where these differ, or where no such value is there, it is a misfit.
 abbrev pub handed_on : Site → Option Kind → Option Kind → Option (List Value)
 handed_on site None None = Some []
-handed_on site (Some k) (Some wanted) = if same_kind k wanted then option_map (λ v. v ∷ []) (kind_at k site.frame.stack 0) else None
+handed_on site (Some k) (Some wanted) = if is_same_kind k wanted then option_map (λ v. v ∷ []) (kind_at k site.frame.stack 0) else None
 handed_on site returned wanted = None
 
 abbrev pub result_of : Site → Option Kind → MethodName → Option (List Value)

@@ -39,8 +39,8 @@ with_numbered change [] n = []
 with_numbered change (x ∷ older) n = if n == length (x ∷ older) then change x ∷ older else x ∷ with_numbered change older n
 
 -- both have one number
-abbrev pub same_class : ClassNo → ClassNo → Bool
-same_class a b = a.0 == b.0
+abbrev pub is_same_class : ClassNo → ClassNo → Bool
+is_same_class a b = a.0 == b.0
 
 -- the class of a number
 abbrev pub class_at : List Class → ClassNo → Option Class

@@ -3,12 +3,12 @@
 use Rattle.std.specs.Prelude.{Bool, not, ◌==◌, if◌then◌else◌, List, [], ◌∷◌, ◌++◌, length, filter, Option, Some, None}
 use Rattle.std.specs.List.{flat_map, list_any}
 use Rattle.ti_ids.specs.declared.number.ClassNo.{ClassNo}
-use Rattle.link_versions.specs.Classes.{Class, same_class}
+use Rattle.link_versions.specs.Classes.{Class, is_same_class}
 
 -- each class once, where it comes first
 abbrev pub distinct : List ClassNo → List ClassNo
 distinct [] = []
-distinct (n ∷ ns) = n ∷ filter (λ m. not (same_class n m)) (distinct ns)
+distinct (n ∷ ns) = n ∷ filter (λ m. not (is_same_class n m)) (distinct ns)
 
 -- what is found from a superclass, if there is one
 abbrev pub from_parent : (ClassNo → List ClassNo) → Option ClassNo → List ClassNo
@@ -31,4 +31,4 @@ superclasses (c ∷ older) n = if n.0 == length (c ∷ older) then n ∷ from_pa
 
 -- a class is another one, or extends or implements it
 abbrev pub is_below : List Class → ClassNo → ClassNo → Bool
-is_below classes n of = list_any (same_class of) (lookup_order classes n)
+is_below classes n of = list_any (is_same_class of) (lookup_order classes n)

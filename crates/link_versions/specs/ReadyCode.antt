@@ -14,7 +14,7 @@ use Rattle.class_tree.specs.declared.pool.Const.TheVariants as const
 use Rattle.class_tree.specs.declared.members.Member.{Member}
 use Rattle.class_tree.specs.Trees.{Tree}
 use Rattle.class_tree.specs.Tree.{entry_at, code_of}
-use Rattle.link_versions.specs.Classes.{Class, same_class, version_at}
+use Rattle.link_versions.specs.Classes.{Class, is_same_class, version_at}
 use Rattle.link_versions.specs.Members.{method_name, method_desc, method_in}
 
 -- the number of an entry
@@ -51,7 +51,7 @@ code_named t name desc = option_and_then (ready_code t.pool) (method_in t name d
 -- the code of a method in a version of its class, which may have its methods in any order, and where it lacks the method has none
 unfoldable pub code_in : List Class → VersionNo → MethodNo → Option (List (ℕ × Instr))
 code_in classes v m =
-    if same_class v.class m.class then
+    if is_same_class v.class m.class then
     option_and_then (λ t. code_named t (method_name classes m) (method_desc classes m)) (version_at classes v) else None
 
 -- the code of a method, if it has one, has a list; of a well-formed class, that of each method has

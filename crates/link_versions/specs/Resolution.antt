@@ -13,7 +13,7 @@ use Rattle.link_versions.specs.declared.fault.LinkFault.{LinkFault}
 use Rattle.link_versions.specs.declared.fault.LinkFault.TheVariants as faults
 use Rattle.link_versions.specs.declared.method.Sole.{Sole}
 use Rattle.link_versions.specs.declared.method.Sole.TheVariants as sole
-use Rattle.link_versions.specs.Classes.{Class, same_class, number_of, is_interface}
+use Rattle.link_versions.specs.Classes.{Class, is_same_class, number_of, is_interface}
 use Rattle.link_versions.specs.Orders.{lookup_order, superclasses, is_below}
 use Rattle.link_versions.specs.Subtypes.{object_name}
 use Rattle.link_versions.specs.Members.{declared_field, declared_method, declared_virtual, method_name, method_desc, method_has}
@@ -33,7 +33,7 @@ resolved_field classes n name desc = found_or faults.NoField (first_of (declared
 
 -- what a superinterface of a class declares, where that is neither private nor static
 unfoldable pub candidate : List Class → ClassNo → Name → Name → ClassNo → Option MethodNo
-candidate classes n name desc i = if is_interface classes i && not (same_class i n) then declared_virtual classes name desc i else None
+candidate classes n name desc i = if is_interface classes i && not (is_same_class i n) then declared_virtual classes name desc i else None
 
 -- of all superinterfaces
 unfoldable pub candidates : List Class → ClassNo → Name → Name → List MethodNo
@@ -41,7 +41,7 @@ candidates classes n name desc = filter_map (candidate classes n name desc) (loo
 
 -- another one is declared in a subinterface of the method's interface
 abbrev pub is_overriding : List Class → MethodNo → MethodNo → Bool
-is_overriding classes m other = not (same_class m.class other.class) && is_below classes other.class m.class
+is_overriding classes m other = not (is_same_class m.class other.class) && is_below classes other.class m.class
 
 unfoldable pub is_overridden : List Class → List MethodNo → MethodNo → Bool
 is_overridden classes others m = list_any (is_overriding classes m) others

@@ -19,10 +19,12 @@ use Rattle.transform_chain.specs.Turns.{fold_from}
 use Rattle.class_tree.specs.Trees.{Tree}
 use Rattle.class_tree.specs.Tree.{is_text, text_at, code_of}
 use Rattle.link_versions.specs.Members.{method_in}
-use Rattle.machine_state.specs.Jobs.{Job, Call, AddCapabilities, SetEventNotificationMode, SetBreakpoint, ClearBreakpoint}
-use Rattle.machine_state.specs.Jobs.{SetFieldAccessWatch, SetFieldModificationWatch, SetTag, GetTag, IterateThroughHeap}
-use Rattle.machine_state.specs.Jobs.{SuspendThread, ResumeThread, GetThreadState, GetStackTrace, NotifyFramePop, GetClassStatus, GetBytecodes}
-use Rattle.machine_state.specs.Jobs.{RetransformClasses, UseRules, AddTransformer, RemoveTransformer}
+use Rattle.agent_types.specs.declared.call.Call.{Call}
+use Rattle.agent_types.specs.declared.call.Call.TheVariants.{AddCapabilities, SetEventNotificationMode, SetBreakpoint, ClearBreakpoint}
+use Rattle.machine_state.specs.Jobs.{Job}
+use Rattle.agent_types.specs.declared.call.Call.TheVariants.{SetFieldAccessWatch, SetFieldModificationWatch, SetTag, GetTag, IterateThroughHeap}
+use Rattle.agent_types.specs.declared.call.Call.TheVariants.{SuspendThread, ResumeThread, GetThreadState, GetStackTrace, NotifyFramePop, GetClassStatus, GetBytecodes}
+use Rattle.agent_types.specs.declared.call.Call.TheVariants.{RetransformClasses, UseRules, AddTransformer, RemoveTransformer}
 use Rattle.machine_state.specs.Trace.{Trace, Place, Number, Bytes, Numbers, Texts, Reply, CapsChanged, ModeSet, BreakSet, BreakCleared, WatchSet}
 use Rattle.machine_state.specs.Trace.{Tagged, PopAsked, SuspendSet, RulesChosen, TransformerAdded, TransformerRemoved, Retransformed}
 use Rattle.machine_state.specs.Environments.{capabilities_of}

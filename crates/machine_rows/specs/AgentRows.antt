@@ -7,15 +7,18 @@ use Rattle.ti_ids.specs.declared.actor.End.TheVariants.{Dead}
 use Rattle.ti_codes.specs.declared.capability.Capability.TheVariants as capabilities
 use Rattle.ti_codes.specs.declared.event.EventKind.TheVariants as kinds
 use Rattle.jv_names.specs.Names.{Name}
-use Rattle.machine_state.specs.Jobs as jobs
-use Rattle.machine_state.specs.Jobs.{Job, Native, Constant, AddCapabilities, SetEventNotificationMode, SetBreakpoint, UseRules, RetransformClasses}
+use Rattle.agent_types.specs.declared.agent.Agent as agent_type
+use Rattle.agent_types.specs.declared.agent.AgentKind.TheVariants.{Native}
+use Rattle.agent_types.specs.declared.rule.Edit.TheVariants.{Constant}
+use Rattle.agent_types.specs.declared.call.Call.TheVariants.{AddCapabilities, SetEventNotificationMode, SetBreakpoint, UseRules, RetransformClasses}
+use Rattle.machine_state.specs.Jobs.{Job}
 use Rattle.machine_state.specs.Versions.{Turns}
 use Rattle.machine_steps.specs.World.{World}
 use Rattle.machine_rows.specs.Rows.{job_of, thread, IsRow}
 use Rattle.machine_rows.specs.AgentCalls.{refuses_of, answers_of}
 
 -- a job with an agent, and what the agent's calls and its rules do
-abbrev pub with_agent : jobs.Agent → Turns → Job → World
+abbrev pub with_agent : agent_type.Agent → Turns → Job → World
 with_agent agent turns job = let whole = record job { agents = agent ∷ [] } in record { job = whole; turns = turns; refuses = refuses_of; answers = answers_of whole turns }
 
 -- ---- retransform while running
@@ -40,7 +43,7 @@ nine bytes = slice_set bytes 286 9
 abbrev pub loop_turns : EnvNo → Name → Name → List ℕ → Option (List ℕ)
 loop_turns env set class bytes = if bytes_eq set (codes "nine") then Some (nine bytes) else None
 
-abbrev pub one : jobs.Agent
+abbrev pub one : agent_type.Agent
 one = record {
   name = codes "one";
   kind = Native;
@@ -81,7 +84,7 @@ two_file =
     0 ∷ 0 ∷ 1 ∷ 0 ∷ 0 ∷ 0 ∷ 1 ∷ 177 ∷ 0 ∷ 0 ∷ 0 ∷ 0 ∷ 0 ∷ 9 ∷ 0 ∷ 11 ∷ 0 ∷ 12 ∷ 0 ∷ 1 ∷ 0 ∷ 7 ∷ 0 ∷ 0 ∷ 0 ∷ 23 ∷ 0 ∷ 2 ∷ 0 ∷ 1 ∷ 0 ∷ 0 ∷
     0 ∷ 11 ∷ 187 ∷ 0 ∷ 2 ∷ 89 ∷ 183 ∷ 0 ∷ 13 ∷ 182 ∷ 0 ∷ 16 ∷ 177 ∷ 0 ∷ 0 ∷ 0 ∷ 0 ∷ 0 ∷ 0 ∷ []
 
-abbrev pub stepper : jobs.Agent
+abbrev pub stepper : agent_type.Agent
 stepper = record {
   name = codes "steps";
   kind = Native;

@@ -5,8 +5,10 @@ use Rattle.ti_ids.specs.declared.actor.Actor.TheVariants.{Vm}
 use Rattle.ti_ids.specs.declared.actor.End.TheVariants.{Dead}
 use Rattle.ti_codes.specs.declared.capability.Capability.TheVariants as capabilities
 use Rattle.ti_codes.specs.declared.event.EventKind.TheVariants as kinds
-use Rattle.machine_state.specs.Jobs as jobs
-use Rattle.machine_state.specs.Jobs.{Call, Native, AddCapabilities, SetEventNotificationMode, SetBreakpoint, ClearBreakpoint, RetransformClasses}
+use Rattle.agent_types.specs.declared.agent.Agent as agent_type
+use Rattle.agent_types.specs.declared.call.Call.{Call}
+use Rattle.agent_types.specs.declared.agent.AgentKind.TheVariants.{Native}
+use Rattle.agent_types.specs.declared.call.Call.TheVariants.{AddCapabilities, SetEventNotificationMode, SetBreakpoint, ClearBreakpoint, RetransformClasses}
 use Rattle.machine_steps.specs.World.{World}
 use Rattle.machine_rows.specs.Lines.{lines}
 use Rattle.machine_rows.specs.Rows.{thread, IsRow}
@@ -19,7 +21,7 @@ sets = SetBreakpoint (codes "Loop") (codes "f") (codes "()V") 0
 
 -- ---- breakpoint twice
 
-abbrev pub twice_1 : jobs.Agent
+abbrev pub twice_1 : agent_type.Agent
 twice_1 = record {
   name = codes "one";
   kind = Native;
@@ -67,7 +69,7 @@ BreakpointTwice = IsRow twice twice_schedule Dead twice_text
 
 -- ---- installing clears breakpoints
 
-abbrev pub clearing_1 : jobs.Agent
+abbrev pub clearing_1 : agent_type.Agent
 clearing_1 = record {
   name = codes "breaks";
   kind = Native;

@@ -5,8 +5,11 @@ use Rattle.ti_ids.specs.declared.actor.Actor.TheVariants.{Vm}
 use Rattle.ti_ids.specs.declared.actor.End.TheVariants.{Dead}
 use Rattle.ti_codes.specs.declared.capability.Capability.TheVariants as capabilities
 use Rattle.ti_codes.specs.declared.event.EventKind.TheVariants as kinds
-use Rattle.machine_state.specs.Jobs as jobs
-use Rattle.machine_state.specs.Jobs.{Call, Native, Java, AddCapabilities, GetClassStatus, GetBytecodes, AddTransformer, RemoveTransformer}
+use Rattle.agent_types.specs.declared.agent.Agent as agent_type
+use Rattle.agent_types.specs.declared.rule.Edit.TheVariants as edits
+use Rattle.agent_types.specs.declared.call.Call.{Call}
+use Rattle.agent_types.specs.declared.agent.AgentKind.TheVariants.{Native, Java}
+use Rattle.agent_types.specs.declared.call.Call.TheVariants.{AddCapabilities, GetClassStatus, GetBytecodes, AddTransformer, RemoveTransformer}
 use Rattle.machine_steps.specs.World.{World}
 use Rattle.machine_rows.specs.Lines.{lines}
 use Rattle.machine_rows.specs.Rows.{thread, agent, IsRow, edges_five}
@@ -17,12 +20,12 @@ use Rattle.machine_rows.specs.EventRows.{heard, hears}
 -- ---- transformer removed
 
 -- The earliest one of the set goes, whether or not it can retransform.
-abbrev pub removed_1 : jobs.Agent
+abbrev pub removed_1 : agent_type.Agent
 removed_1 = record {
   name = codes "ij";
   kind = Java;
   sets = codes "nine" ∷ codes "plain" ∷ [];
-  rules = record { set = codes "nine"; class = codes "Loop"; edit = jobs.Constant (codes "f") (codes "()V") (pos 7) (pos 9) } ∷ [];
+  rules = record { set = codes "nine"; class = codes "Loop"; edit = edits.Constant (codes "f") (codes "()V") (pos 7) (pos 9) } ∷ [];
   load =
       AddTransformer (codes "nine") false ∷ AddTransformer (codes "plain") false
       ∷ AddTransformer (codes "nine") true ∷ RemoveTransformer (codes "nine") true ∷ [];
@@ -68,7 +71,7 @@ abbrev pub status : Call
 status = GetClassStatus (codes "Five")
 
 -- `main` has 31 bytes, of which a line shows 20.
-abbrev pub bytes_1 : jobs.Agent
+abbrev pub bytes_1 : agent_type.Agent
 bytes_1 = record {
   name = codes "one";
   kind = Native;

@@ -5,8 +5,12 @@ use Rattle.ti_ids.specs.declared.actor.Actor.TheVariants.{Vm}
 use Rattle.ti_ids.specs.declared.actor.End.TheVariants.{Dead}
 use Rattle.ti_codes.specs.declared.capability.Capability.TheVariants as capabilities
 use Rattle.ti_codes.specs.declared.event.EventKind.TheVariants as kinds
-use Rattle.machine_state.specs.Jobs as jobs
-use Rattle.machine_state.specs.Jobs.{Job, Native, Constant, WholeFile, AddCapabilities, SetEventNotificationMode, SetBreakpoint, UseRules, RetransformClasses, AddTransformer, GetStackTrace}
+use Rattle.agent_types.specs.declared.agent.Agent as agent_type
+use Rattle.agent_types.specs.declared.agent.AgentKind.TheVariants as agent_kinds
+use Rattle.agent_types.specs.declared.agent.AgentKind.TheVariants.{Native}
+use Rattle.agent_types.specs.declared.rule.Edit.TheVariants.{Constant}
+use Rattle.agent_types.specs.declared.call.Call.TheVariants.{AddCapabilities, SetEventNotificationMode, SetBreakpoint, UseRules, RetransformClasses, AddTransformer, GetStackTrace}
+use Rattle.machine_state.specs.Jobs.{Job}
 use Rattle.machine_state.specs.Versions.{Turns}
 use Rattle.machine_steps.specs.World.{World}
 use Rattle.machine_rows.specs.Rows.{job_of, thread, IsRow}
@@ -14,7 +18,7 @@ use Rattle.machine_rows.specs.AgentCalls.{refuses_of, answers_of}
 use Rattle.machine_rows.specs.AgentRows.{loop_file, loop_turns}
 
 -- a job with these agents, and what their calls and rules do
-abbrev pub with_agents : List jobs.Agent → Turns → Job → World
+abbrev pub with_agents : List agent_type.Agent → Turns → Job → World
 with_agents agents turns job = let whole = record job { agents = agents } in record { job = whole; turns = turns; refuses = refuses_of; answers = answers_of whole turns }
 
 abbrev pub loop_job : Job
@@ -22,7 +26,7 @@ loop_job = job_of (codes "Loop") (record { name = codes "Loop"; bytes = loop_fil
 
 -- ---- hook changes constant
 
-abbrev pub hooked_1 : jobs.Agent
+abbrev pub hooked_1 : agent_type.Agent
 hooked_1 = record {
   name = codes "nine";
   kind = Native;
@@ -47,7 +51,7 @@ HookChangesConstant = IsRow hooked hooked_schedule Dead hooked_text
 
 -- ---- incapable result stays
 
-abbrev pub incapable_1 : jobs.Agent
+abbrev pub incapable_1 : agent_type.Agent
 incapable_1 = record {
   name = codes "first";
   kind = Native;
@@ -58,7 +62,7 @@ incapable_1 = record {
   callbacks = record { event = kinds.ClassPrepare; class = None; thread = None; calls = UseRules (codes "plain") ∷ [] } ∷ [];
 }
 
-abbrev pub incapable_2 : jobs.Agent
+abbrev pub incapable_2 : agent_type.Agent
 incapable_2 = record {
   name = codes "second";
   kind = Native;
@@ -83,7 +87,7 @@ IncapableResultStays = IsRow incapable incapable_schedule Dead incapable_text
 
 -- ---- obsolete though equal bytes
 
-abbrev pub obsolete_1 : jobs.Agent
+abbrev pub obsolete_1 : agent_type.Agent
 obsolete_1 = record {
   name = codes "one";
   kind = Native;
@@ -108,7 +112,7 @@ ObsoleteThoughEqualBytes = IsRow obsolete obsolete_schedule Dead obsolete_text
 
 -- ---- order of four groups
 
-abbrev pub groups_1 : jobs.Agent
+abbrev pub groups_1 : agent_type.Agent
 groups_1 = record {
   name = codes "cn";
   kind = Native;
@@ -119,10 +123,10 @@ groups_1 = record {
   callbacks = [];
 }
 
-abbrev pub groups_2 : jobs.Agent
+abbrev pub groups_2 : agent_type.Agent
 groups_2 = record {
   name = codes "cj";
-  kind = jobs.Java;
+  kind = agent_kinds.Java;
   sets = codes "plain" ∷ [];
   rules = [];
   load = AddTransformer (codes "plain") true ∷ [];
@@ -130,7 +134,7 @@ groups_2 = record {
   callbacks = [];
 }
 
-abbrev pub groups_3 : jobs.Agent
+abbrev pub groups_3 : agent_type.Agent
 groups_3 = record {
   name = codes "in";
   kind = Native;
@@ -141,10 +145,10 @@ groups_3 = record {
   callbacks = [];
 }
 
-abbrev pub groups_4 : jobs.Agent
+abbrev pub groups_4 : agent_type.Agent
 groups_4 = record {
   name = codes "ij";
-  kind = jobs.Java;
+  kind = agent_kinds.Java;
   sets = codes "plain" ∷ [];
   rules = [];
   load = AddTransformer (codes "plain") false ∷ [];

@@ -5,16 +5,18 @@ use Rattle.ti_ids.specs.declared.actor.Actor.TheVariants.{Vm}
 use Rattle.ti_ids.specs.declared.actor.End.TheVariants.{Dead}
 use Rattle.ti_codes.specs.declared.capability.Capability.TheVariants as capabilities
 use Rattle.ti_codes.specs.declared.event.EventKind.TheVariants as kinds
-use Rattle.machine_state.specs.Jobs as jobs
-use Rattle.machine_state.specs.Jobs.{Call, Native, AddCapabilities, SetEventNotificationMode, SetBreakpoint, SetFieldAccessWatch}
-use Rattle.machine_state.specs.Jobs.{SetFieldModificationWatch, NotifyFramePop, SetTag, GetTag}
+use Rattle.agent_types.specs.declared.agent.Agent as agent_type
+use Rattle.agent_types.specs.declared.call.Call.{Call}
+use Rattle.agent_types.specs.declared.agent.AgentKind.TheVariants.{Native}
+use Rattle.agent_types.specs.declared.call.Call.TheVariants.{AddCapabilities, SetEventNotificationMode, SetBreakpoint, SetFieldAccessWatch}
+use Rattle.agent_types.specs.declared.call.Call.TheVariants.{SetFieldModificationWatch, NotifyFramePop, SetTag, GetTag}
 use Rattle.machine_steps.specs.World.{World}
 use Rattle.machine_rows.specs.Lines.{lines}
 use Rattle.machine_rows.specs.Rows.{job_of, thread, IsRow}
 use Rattle.machine_rows.specs.ChainRows.{with_agents}
 
 -- a program of one class, and an agent without rules
-abbrev pub heard : jobs.Agent → List ℕ → List ℕ → World
+abbrev pub heard : agent_type.Agent → List ℕ → List ℕ → World
 heard agent name bytes =
     with_agents (agent ∷ []) (λ env set class bytes. None) (job_of name (record { name = name; bytes = bytes } ∷ []) 1000)
 
@@ -45,7 +47,7 @@ hears event = SetEventNotificationMode true event None
 
 -- Of the callbacks that name a class or a thread, that of VMDeath alone is never called: VMDeath has no thread. The pop of one frame is
 -- asked for twice, and met once. Object 0 is the one that was made.
-abbrev pub every_1 : jobs.Agent
+abbrev pub every_1 : agent_type.Agent
 every_1 = record {
   name = codes "ear";
   kind = Native;

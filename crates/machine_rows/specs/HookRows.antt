@@ -7,8 +7,11 @@ use Rattle.ti_ids.specs.declared.actor.End.TheVariants.{Dead, StepLimit}
 use Rattle.ti_codes.specs.declared.capability.Capability.TheVariants as capabilities
 use Rattle.ti_codes.specs.declared.event.EventKind.TheVariants as kinds
 use Rattle.jv_names.specs.Names.{Name}
-use Rattle.machine_state.specs.Jobs as jobs
-use Rattle.machine_state.specs.Jobs.{Job, Native, Constant, WholeFile, AddCapabilities, SetEventNotificationMode, SetBreakpoint, UseRules, RetransformClasses, AddTransformer, GetStackTrace}
+use Rattle.agent_types.specs.declared.agent.Agent as agent_type
+use Rattle.agent_types.specs.declared.agent.AgentKind.TheVariants.{Native}
+use Rattle.agent_types.specs.declared.rule.Edit.TheVariants.{Constant, File}
+use Rattle.agent_types.specs.declared.call.Call.TheVariants.{AddCapabilities, SetEventNotificationMode, SetBreakpoint, UseRules, RetransformClasses, AddTransformer, GetStackTrace}
+use Rattle.machine_state.specs.Jobs.{Job}
 use Rattle.machine_steps.specs.World.{World}
 use Rattle.machine_rows.specs.Rows.{thread, IsRow}
 use Rattle.machine_rows.specs.AgentRows.{loop_turns}
@@ -17,12 +20,12 @@ use Rattle.machine_rows.specs.ChainRows.{with_agents, loop_job}
 
 -- ---- hook breaks the class
 
-abbrev pub broken_1 : jobs.Agent
+abbrev pub broken_1 : agent_type.Agent
 broken_1 = record {
   name = codes "bad";
   kind = Native;
   sets = codes "bad" ∷ [];
-  rules = record { set = codes "bad"; class = codes "Loop"; edit = WholeFile 1 } ∷ [];
+  rules = record { set = codes "bad"; class = codes "Loop"; edit = File 1 } ∷ [];
   load = SetEventNotificationMode true 54 None ∷ UseRules (codes "bad") ∷ [];
   script = [];
   callbacks = [];
@@ -46,7 +49,7 @@ HookBreaksTheClass = IsRow broken broken_schedule Dead broken_text
 
 -- ---- restless agent
 
-abbrev pub restless_1 : jobs.Agent
+abbrev pub restless_1 : agent_type.Agent
 restless_1 = record {
   name = codes "one";
   kind = Native;

@@ -6,8 +6,9 @@ use Rattle.ti_ids.specs.declared.actor.Actor.TheVariants.{Vm}
 use Rattle.ti_ids.specs.declared.actor.End.TheVariants.{Dead}
 use Rattle.ti_codes.specs.declared.capability.Capability.TheVariants as capabilities
 use Rattle.ti_codes.specs.declared.event.EventKind.TheVariants as kinds
-use Rattle.machine_state.specs.Jobs as jobs
-use Rattle.machine_state.specs.Jobs.{Native, AddCapabilities, SetBreakpoint, SetTag, GetTag, SuspendThread, ResumeThread, GetThreadState}
+use Rattle.agent_types.specs.declared.agent.Agent as agent_type
+use Rattle.agent_types.specs.declared.agent.AgentKind.TheVariants.{Native}
+use Rattle.agent_types.specs.declared.call.Call.TheVariants.{AddCapabilities, SetBreakpoint, SetTag, GetTag, SuspendThread, ResumeThread, GetThreadState}
 use Rattle.machine_steps.specs.World.{World}
 use Rattle.machine_rows.specs.Lines.{lines}
 use Rattle.machine_rows.specs.Rows.{thread, agent, IsRow}
@@ -37,7 +38,7 @@ meets_file =
 
 -- Thread 1 is suspended while it owns the monitor that thread 2 then wants. Of the callbacks that name a class or a thread, the last two
 -- are never called: it is thread 1 that waits, and MonitorWaited has no class. Object 0 is that of the monitor.
-abbrev pub meets_1 : jobs.Agent
+abbrev pub meets_1 : agent_type.Agent
 meets_1 = record {
   name = codes "ear";
   kind = Native;

@@ -1,6 +1,6 @@
 -- Calls that are refused for a fault of an agent file, whatever reads these files.
 use Rattle.std.specs.Prelude.{◌≡◌, ℕ, List, [], ◌∷◌, ◌++◌, Some, codes, Result, Err}
-use Rattle.machine_state.specs.Jobs.{Agent}
+use Rattle.agent_types.specs.declared.agent.Agent.{Agent}
 use Rattle.job_words.specs.Options.{Word}
 use Rattle.job_words.specs.declared.agent_fault.AgentFault.{AgentFault}
 use Rattle.job_words.specs.declared.agent_fault.AgentFault.TheVariants.{Syntax, Missing, Unknown, Kind, TooMany}

@@ -1,6 +1,6 @@
 -- Calls of the program that are refused before anything is run: words, files, and the line that tells of the refusal.
 use Rattle.std.specs.Prelude.{◌≡◌, ◌<◌, ℕ, List, [], ◌∷◌, ◌++◌, length, flat_map, take, drop, replicate, find, bytes_eq, ◌==◌, if◌then◌else◌, Option, Some, None, option_map, codes, Result, Ok, Err}
-use Rattle.machine_state.specs.Jobs.{Agent}
+use Rattle.agent_types.specs.declared.agent.Agent.{Agent}
 use Rattle.job_words.specs.Options.{Word}
 use Rattle.job_words.specs.declared.agent_fault.AgentFault.{AgentFault}
 use Rattle.job_words.specs.Refusals.{refusal_text}

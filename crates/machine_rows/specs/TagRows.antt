@@ -5,8 +5,10 @@ use Rattle.ti_ids.specs.declared.actor.Actor.TheVariants.{Vm}
 use Rattle.ti_ids.specs.declared.actor.End.TheVariants.{Dead}
 use Rattle.ti_codes.specs.declared.capability.Capability.TheVariants as capabilities
 use Rattle.ti_codes.specs.declared.event.EventKind.TheVariants as kinds
-use Rattle.machine_state.specs.Jobs as jobs
-use Rattle.machine_state.specs.Jobs.{Call, Native, AddCapabilities, SetEventNotificationMode, SetTag, GetTag, IterateThroughHeap}
+use Rattle.agent_types.specs.declared.agent.Agent as agent_type
+use Rattle.agent_types.specs.declared.call.Call.{Call}
+use Rattle.agent_types.specs.declared.agent.AgentKind.TheVariants.{Native}
+use Rattle.agent_types.specs.declared.call.Call.TheVariants.{AddCapabilities, SetEventNotificationMode, SetTag, GetTag, IterateThroughHeap}
 use Rattle.machine_steps.specs.World.{World}
 use Rattle.machine_rows.specs.Lines.{lines}
 use Rattle.machine_rows.specs.Rows.{thread, agent, IsRow}
@@ -17,7 +19,7 @@ use Rattle.machine_rows.specs.ChainRows.{with_agents}
 abbrev pub loads : List Call
 loads = AddCapabilities (capabilities.Tag ∷ []) ∷ SetEventNotificationMode true 50 None ∷ []
 
-abbrev pub tags_1 : jobs.Agent
+abbrev pub tags_1 : agent_type.Agent
 tags_1 = record {
   name = codes "t1";
   kind = Native;
@@ -28,7 +30,7 @@ tags_1 = record {
   callbacks = record { event = kinds.VMInit; class = None; thread = None; calls = SetTag 3 (pos 5) ∷ [] } ∷ [];
 }
 
-abbrev pub tags_2 : jobs.Agent
+abbrev pub tags_2 : agent_type.Agent
 tags_2 = record {
   name = codes "t2";
   kind = Native;

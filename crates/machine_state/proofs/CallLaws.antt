@@ -1,8 +1,9 @@
 -- The laws of calls, one call after the other.
 use Rattle.std.proofs.Common.{◌≡◌, ℕ, refl}
 use Rattle.std.specs.Prelude.{is_some, option_map}
-use Rattle.machine_state.specs.Jobs.{Call, SetTag, GetTag}
-use Rattle.machine_state.specs.CallArguments.{kind_of_call, object_given, with_object, takes_object}
+use Rattle.agent_types.specs.declared.call.Call.{Call}
+use Rattle.agent_types.specs.declared.call.Call.TheVariants.{SetTag, GetTag}
+use Rattle.agent_types.specs.Calls.{kind_of_call, object_given, with_object, takes_object}
 use Rattle.machine_state.specs.Laws.{ObjectsAreGiven}
 
 named : (call : Call) → is_some (object_given call) ≡ takes_object (kind_of_call call)

@@ -21,15 +21,20 @@ use Rattle.monitor_table.specs.Monitors.{entered, left, gone_to_wait, with_one_n
 use Rattle.thread_frames.specs.ThreadStack.{pushed, popped}
 use Rattle.thread_frames.specs.declared.frame.StackEntry.TheVariants.{Java, Init}
 use Rattle.ti_ids.specs.declared.state.InitState.{InitState}
-use Rattle.machine_state.specs.Jobs as jobs
-use Rattle.machine_state.specs.Jobs.{Job, Call, AgentKind, Native, Callback, agent_at}
+use Rattle.agent_types.specs.declared.agent.Agent as agent_type
+use Rattle.agent_types.specs.declared.agent.AgentKind.TheVariants as agent_kinds
+use Rattle.agent_types.specs.declared.call.Call.{Call}
+use Rattle.agent_types.specs.declared.agent.AgentKind.{AgentKind}
+use Rattle.agent_types.specs.declared.agent.Callback.{Callback}
+use Rattle.agent_types.specs.declared.agent.AgentKind.TheVariants.{Native}
+use Rattle.machine_state.specs.Jobs.{Job, agent_at}
 use Rattle.ti_ids.specs.declared.state.Activity.{Activity}
 use Rattle.ti_ids.specs.declared.state.Activity.TheVariants.{Free}
 use Rattle.machine_state.specs.Core.{Core, CoreClass, MethodFrame, StackFrame, Thread, Pending, is_of_classes, failure_of, most_threads, with_thread, with_frames, with_class, with_monitor, with_queue, same_field}
 use Rattle.machine_state.specs.Trace.{Event, Record, Raised, Turned, Trace}
 use Rattle.machine_state.specs.Linked.{array_type}
 use Rattle.machine_state.specs.Events.{Told, told_by, told_by_hook, thread_of, class_of, object_of}
-use Rattle.machine_state.specs.CallArguments.{with_object}
+use Rattle.agent_types.specs.Calls.{with_object}
 use Rattle.machine_state.specs.Chains.{acting}
 use Rattle.machine_state.specs.Logs.{is_addressed}
 
@@ -181,25 +186,25 @@ abbrev pub call_for : Told → Call → Call
 call_for told call = with_object (object_for told) call
 
 -- the calls that an environment's callbacks for the event make, in their order
-abbrev pub calls_for : EnvNo → Told → jobs.Agent → List Pending
+abbrev pub calls_for : EnvNo → Told → agent_type.Agent → List Pending
 calls_for env told agent =
     flat_map (λ c. map (λ call. record { environment = env; call = call_for told call }) c.calls) (filter (fits told) agent.callbacks)
 
 -- those of all environments that are told of an event, in the order of their numbers
-abbrev pub event_calls_of : Trace → Event → Told → EnvNo → jobs.Agent → List Pending
+abbrev pub event_calls_of : Trace → Event → Told → EnvNo → agent_type.Agent → List Pending
 event_calls_of trace event told env agent = if is_addressed trace env event then calls_for env told agent else []
 
-abbrev pub event_calls : Trace → Event → Told → ℕ → List jobs.Agent → List Pending
+abbrev pub event_calls : Trace → Event → Told → ℕ → List agent_type.Agent → List Pending
 event_calls trace event told n [] = []
 event_calls trace event told n (agent ∷ agents) =
     event_calls_of trace event told (record { 0 = n }) agent ++ event_calls trace event told (n + 1) agents
 
 -- a hook's turn is an event of its environment; the turn of a transformer of `java.lang.instrument` has no callbacks
-abbrev pub turn_calls_in : EnvNo → Told → jobs.Agent → AgentKind → List Pending
+abbrev pub turn_calls_in : EnvNo → Told → agent_type.Agent → AgentKind → List Pending
 turn_calls_in env told agent Native = calls_for env told agent
-turn_calls_in env told agent jobs.Java = []
+turn_calls_in env told agent agent_kinds.Java = []
 
-abbrev pub turn_calls : EnvNo → Told → Option jobs.Agent → List Pending
+abbrev pub turn_calls : EnvNo → Told → Option agent_type.Agent → List Pending
 turn_calls env told None = []
 turn_calls env told (Some agent) = turn_calls_in env told agent agent.kind
 

@@ -16,7 +16,7 @@ use Rattle.transform_chain.specs.Groups.{java_group, hook_group, in_groups}
 use Rattle.transform_chain.specs.Turns.{Does}
 use Rattle.transform_chain.specs.Registrations as registrations
 use Rattle.transform_chain.specs.Registrations.{Adds, Removes, Ends, registered}
-use Rattle.machine_state.specs.Jobs as jobs
+use Rattle.agent_types.specs.declared.agent.Agent as agent_type
 use Rattle.machine_state.specs.Jobs.{Job}
 use Rattle.machine_state.specs.Trace.{Record, Trace, TransformerAdded, TransformerRemoved, Disposed}
 use Rattle.machine_state.specs.Environments.{changes_in, mask, hook_class, rules_of}
@@ -68,7 +68,7 @@ module _ {T : Type 0} (job : Job) (by : EnvNo → Option Name → T) (trace : Tr
   hooks_of env = if mask trace env kinds.ClassFileLoadHook (acting actor) then hook_by by trace env (hook_class job trace env) else []
 
   -- those of so many environments, from this number on
-  abbrev pub hooks_from : ℕ → List jobs.Agent → List (Active T)
+  abbrev pub hooks_from : ℕ → List agent_type.Agent → List (Active T)
   hooks_from n [] = []
   hooks_from n (agent ∷ agents) = hooks_of (record { 0 = n }) ++ hooks_from (n + 1) agents
 

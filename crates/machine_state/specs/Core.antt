@@ -22,7 +22,8 @@ use Rattle.thread_frames.specs.declared.frame.StackEntry.{StackEntry}
 use Rattle.ti_ids.specs.declared.state.Activity.{Activity}
 use Rattle.ti_ids.specs.declared.state.InitState.{InitState}
 use Rattle.link_versions.specs.Classes.{numbered, with_numbered}
-use Rattle.machine_state.specs.Jobs.{Call, counted}
+use Rattle.agent_types.specs.declared.call.Call.{Call}
+use Rattle.machine_state.specs.Jobs.{counted}
 
 -- ---- frames
 

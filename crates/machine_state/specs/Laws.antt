@@ -11,8 +11,9 @@ use Rattle.ti_codes.specs.declared.event.EventKind.{EventKind}
 use Rattle.ti_codes.specs.Events.{is_same_event}
 use Rattle.jv_names.specs.Names.{Name}
 use Rattle.event_mask.specs.Settings.{Scope, same_scope, suffices}
-use Rattle.machine_state.specs.Jobs.{Job, Call}
-use Rattle.machine_state.specs.CallArguments.{kind_of_call, object_given, with_object, takes_object}
+use Rattle.agent_types.specs.declared.call.Call.{Call}
+use Rattle.machine_state.specs.Jobs.{Job}
+use Rattle.agent_types.specs.Calls.{kind_of_call, object_given, with_object, takes_object}
 use Rattle.machine_state.specs.Core.{CoreClass, MethodFrame}
 use Rattle.machine_state.specs.Trace.{Record, Entry, Trace, ModeSet, CapsChanged, Tagged, Disposed, Raised, Turned, Replied}
 use Rattle.machine_state.specs.Environments.{same_environment, setting, mask}

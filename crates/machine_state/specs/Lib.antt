@@ -1,7 +1,6 @@
 pub mod Jobs
 pub mod Core
 pub mod Trace
-pub mod CallArguments
 pub mod Events
 pub mod Environments
 pub mod Chains

@@ -12,8 +12,10 @@ use Rattle.ti_codes.specs.Events.{event_name}
 use Rattle.ti_codes.specs.Errors.{error_number}
 use Rattle.ti_codes.specs.Calls.{call_name}
 use Rattle.jv_names.specs.Names.{Name, printed, hex_digit}
-use Rattle.machine_state.specs.Jobs as jobs
-use Rattle.machine_state.specs.Jobs.{Job, AgentKind, Native, Java, agent_at}
+use Rattle.agent_types.specs.declared.agent.Agent as agent_type
+use Rattle.agent_types.specs.declared.agent.AgentKind.{AgentKind}
+use Rattle.agent_types.specs.declared.agent.AgentKind.TheVariants.{Native, Java}
+use Rattle.machine_state.specs.Jobs.{Job, agent_at}
 use Rattle.machine_state.specs.Trace.{Event, FramePop, Item, Number, Text, Bytes, Numbers, Texts, Reply}
 use Rattle.machine_state.specs.Trace.{Record, Entry, Trace, PopAsked, Turned, Raised, Replied}
 use Rattle.machine_state.specs.Events.{Told, told_by, thread_of, item_of}
@@ -79,7 +81,7 @@ abbrev pub turn_name_in : AgentKind → List ℕ
 turn_name_in Native = event_name kinds.ClassFileLoadHook
 turn_name_in Java = codes "Transform"
 
-abbrev pub turn_name : Option jobs.Agent → List ℕ
+abbrev pub turn_name : Option agent_type.Agent → List ℕ
 turn_name None = []
 turn_name (Some agent) = turn_name_in agent.kind
 
@@ -87,7 +89,7 @@ abbrev pub changed_text : Bool → List ℕ
 changed_text true = codes "changed"
 changed_text false = codes "kept"
 
-abbrev pub turn_line : Option jobs.Agent → Name → Option Name → ℕ → ℕ → Bool → List ℕ
+abbrev pub turn_line : Option agent_type.Agent → Name → Option Name → ℕ → ℕ → Bool → List ℕ
 turn_line agent class set k n changed =
     turn_name agent ++ spaced (printed class ∷ set_text set ∷ (decimal k ++ codes "/" ++ decimal n) ∷ changed_text changed ∷ [])
 

@@ -7,7 +7,7 @@ use Rattle.std.specs.Option.{option_and_then, option_map_or}
 use Rattle.ti_ids.specs.Maybe as maybe
 use Rattle.ti_ids.specs.declared.limits.Limits.{Limits}
 use Rattle.jv_names.specs.Names.{Name}
-use Rattle.machine_state.specs.Jobs as jobs
+use Rattle.agent_types.specs.declared.agent.Agent as agent_type
 use Rattle.machine_state.specs.Jobs.{Job, File}
 use Rattle.job_words.specs.declared.input_limit.InputLimit.{InputLimit}
 use Rattle.job_words.specs.declared.input_limit.InputLimit.TheVariants.{Classes, Donors, Agents, ClassBytes, AgentBytes, ScheduleBytes}
@@ -208,14 +208,14 @@ class_length place earlier (bytes ∷ others) names e =
     ∙ ap (λ (n : ℕ). suc n) (class_length (place + 1) (a.value ∷ earlier) others b.value b.is)
 
 module _ (read_agent : AgentReading) where
-  agents_length : (donors place : ℕ) (contents : List (List ℕ)) (agents : List jobs.Agent) → agent_files read_agent donors place contents ≡ Ok agents
+  agents_length : (donors place : ℕ) (contents : List (List ℕ)) (agents : List agent_type.Agent) → agent_files read_agent donors place contents ≡ Ok agents
       → length agents ≡ length contents
-  agents_length donors place [] agents e = let none : [] ≡ agents = cc in ap (λ (l : List jobs.Agent). length l) (sym none)
+  agents_length donors place [] agents e = let none : [] ≡ agents = cc in ap (λ (l : List agent_type.Agent). length l) (sym none)
   agents_length donors place (bytes ∷ others) agents e =
       let a = came (agent_file read_agent donors place bytes) _ agents e in
       let b = came (agent_files read_agent donors (place + 1) others) _ agents a.rest in
       let whole : a.value ∷ b.value ≡ agents = cc in
-      ap (λ (l : List jobs.Agent). length l) (sym whole) ∙ ap (λ (n : ℕ). suc n) (agents_length donors (place + 1) others b.value b.is)
+      ap (λ (l : List agent_type.Agent). length l) (sym whole) ∙ ap (λ (n : ℕ). suc n) (agents_length donors (place + 1) others b.value b.is)
 
   -- ---- jobs and tasks
 

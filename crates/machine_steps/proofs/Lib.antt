@@ -12,3 +12,4 @@ pub mod LoadingOnce
 pub mod StayingCode
 pub mod DifferingNames
 pub mod Births
+pub mod CheckLaws

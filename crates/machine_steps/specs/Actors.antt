@@ -17,8 +17,9 @@ use Rattle.base_set.specs.BaseSet.{base_set, has_name}
 use Rattle.java_heap.specs.Objects.{fresh}
 use Rattle.java_heap.specs.declared.object.Content.TheVariants.{Fields}
 use Rattle.ti_ids.specs.declared.state.InitState.TheVariants as states
-use Rattle.machine_state.specs.Jobs as jobs
-use Rattle.machine_state.specs.Jobs.{ScriptCall, agent_at, counted}
+use Rattle.agent_types.specs.declared.agent.Agent as agent_type
+use Rattle.agent_types.specs.declared.agent.ScriptCall.{ScriptCall}
+use Rattle.machine_state.specs.Jobs.{agent_at, counted}
 use Rattle.machine_state.specs.Core.{Core, has_ended, script_place}
 use Rattle.machine_state.specs.Trace.{Started, Inited, Died, VMStart, VMInit, VMDeath}
 use Rattle.machine_state.specs.Environments.{is_disposed}
@@ -87,11 +88,11 @@ may_script s env = is_live s.core.phase && not s.core.death_raised && not (has_c
 abbrev pub when_logged : World → State → EnvNo → ScriptCall → Option NextCall
 when_logged w s env c = if nat_le c.at (length (log w.job s.trace env)) then Some (scripted env c.call) else None
 
-abbrev pub script_call : World → State → EnvNo → jobs.Agent → Option NextCall
+abbrev pub script_call : World → State → EnvNo → agent_type.Agent → Option NextCall
 script_call w s env agent = counted agent.script (script_place s.core env + 1) >>= when_logged w s env
 
 -- one that waits comes first
-abbrev pub agent_call : World → State → EnvNo → jobs.Agent → Option NextCall
+abbrev pub agent_call : World → State → EnvNo → agent_type.Agent → Option NextCall
 agent_call w s env agent = if may_script s env then option_or (queued_call s.core (Agent env)) (script_call w s env agent) else None
 
 abbrev pub next_call : World → State → Actor → Option NextCall

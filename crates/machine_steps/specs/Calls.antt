@@ -4,9 +4,9 @@ use Rattle.std.specs.Prelude.{Bool, List, [], ◌∷◌, ◌++◌, Option, Some,
 use Rattle.ti_ids.specs.declared.number.EnvNo.{EnvNo}
 use Rattle.ti_ids.specs.declared.actor.Actor.{Actor}
 use Rattle.ti_codes.specs.declared.error.ErrorCode.{ErrorCode}
-use Rattle.machine_state.specs.Jobs.{Call}
+use Rattle.agent_types.specs.declared.call.Call.{Call}
 use Rattle.machine_state.specs.Core.{Core, Pending, queue_of}
-use Rattle.machine_state.specs.CallArguments.{kind_of_call}
+use Rattle.agent_types.specs.Calls.{kind_of_call}
 use Rattle.machine_state.specs.Trace.{Replied}
 use Rattle.machine_state.specs.Acts.{State, Act, Change, Changes, Notes, TakesCall, TakesScript, changed}
 use Rattle.machine_steps.specs.World.{World, Answer}

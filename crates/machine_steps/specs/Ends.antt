@@ -7,7 +7,7 @@ use Rattle.ti_ids.specs.declared.actor.End.{End}
 use Rattle.ti_ids.specs.declared.actor.End.TheVariants as ends
 use Rattle.ti_codes.specs.declared.phase.Phase.{Phase}
 use Rattle.ti_codes.specs.declared.phase.Phase.TheVariants as phases
-use Rattle.machine_state.specs.Jobs as jobs
+use Rattle.agent_types.specs.declared.agent.Agent as agent_type
 use Rattle.machine_state.specs.Jobs.{Job}
 use Rattle.machine_state.specs.Core as core
 use Rattle.machine_state.specs.Trace.{Trace}
@@ -22,7 +22,7 @@ abbrev pub numbered_threads : ℕ → List core.Thread → List Actor
 numbered_threads n [] = []
 numbered_threads n (t ∷ threads) = Thread (record { 0 = n }) ∷ numbered_threads (n + 1) threads
 
-abbrev pub numbered_agents : ℕ → List jobs.Agent → List Actor
+abbrev pub numbered_agents : ℕ → List agent_type.Agent → List Actor
 numbered_agents n [] = []
 numbered_agents n (a ∷ agents) = Agent (record { 0 = n }) ∷ numbered_agents (n + 1) agents
 
@@ -32,7 +32,7 @@ actors job s = Vm ∷ numbered_threads 1 s.core.threads ++ numbered_agents 1 job
 
 -- ---- the logs of all environments
 
-abbrev pub lines_from : Job → Trace → ℕ → List jobs.Agent → List (List ℕ)
+abbrev pub lines_from : Job → Trace → ℕ → List agent_type.Agent → List (List ℕ)
 lines_from job trace n [] = []
 lines_from job trace n (a ∷ agents) = log job trace (record { 0 = n }) ++ lines_from job trace (n + 1) agents
 

@@ -22,3 +22,4 @@ pub mod Parts
 pub mod StandsFor
 pub mod Written
 pub mod ReportLaws
+pub mod CheckLaws

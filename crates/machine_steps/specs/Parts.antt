@@ -25,7 +25,7 @@ use Rattle.report_text.specs.declared.run.Run.{Run}
 use Rattle.event_mask.specs.declared.hook.HookClass.{HookClass}
 use Rattle.event_mask.specs.Settings.{Scope}
 use Rattle.transform_chain.specs.declared.registered.Registered.{Registered}
-use Rattle.machine_state.specs.Jobs as jobs
+use Rattle.agent_types.specs.declared.agent.Agent as agent_type
 use Rattle.machine_state.specs.Jobs.{File}
 use Rattle.ti_ids.specs.declared.state.Activity.{Activity}
 use Rattle.machine_state.specs.Core.{Pending}
@@ -111,4 +111,4 @@ pub record Parts : Type 0 where
   pub main : Name
   pub limits : Limits
   pub donors : List (List ℕ)
-  pub agents : List jobs.Agent
+  pub agents : List agent_type.Agent

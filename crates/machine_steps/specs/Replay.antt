@@ -4,7 +4,8 @@ use Rattle.ti_ids.specs.declared.number.EnvNo.{EnvNo}
 use Rattle.ti_ids.specs.declared.actor.Actor.{Actor}
 use Rattle.ti_ids.specs.declared.actor.Actor.TheVariants.{Vm}
 use Rattle.ti_codes.specs.declared.phase.Phase.TheVariants as phases
-use Rattle.machine_state.specs.Jobs as jobs
+use Rattle.agent_types.specs.declared.agent.Agent as agent_type
+use Rattle.agent_types.specs.declared.call.Call as tool_call
 use Rattle.machine_state.specs.Jobs.{Job}
 use Rattle.machine_state.specs.Core.{Core, Pending}
 use Rattle.machine_state.specs.Acts.{State, Act, stepped}
@@ -26,10 +27,10 @@ step w s actor = step_by w s actor (next_acts w s actor)
 -- ---- before the first step
 
 -- the load calls of all agents, in the order of their numbers
-abbrev pub pending : EnvNo → List jobs.Call → List Pending
+abbrev pub pending : EnvNo → List tool_call.Call → List Pending
 pending env calls = map (λ call. record { environment = env; call = call }) calls
 
-abbrev pub load_calls_from : ℕ → List jobs.Agent → List Pending
+abbrev pub load_calls_from : ℕ → List agent_type.Agent → List Pending
 load_calls_from n [] = []
 load_calls_from n (agent ∷ agents) = pending (record { 0 = n }) agent.load ++ load_calls_from (1 + n) agents
 

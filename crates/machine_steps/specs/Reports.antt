@@ -11,7 +11,7 @@ use Rattle.report_text.specs.declared.agent_log.AgentLog.{AgentLog}
 use Rattle.report_text.specs.Runs.{runs_of}
 use Rattle.report_text.specs.Texts.{report_text}
 use Rattle.link_versions.specs.Classes.{Class}
-use Rattle.machine_state.specs.Jobs as jobs
+use Rattle.agent_types.specs.declared.agent.Agent as agent_type
 use Rattle.machine_state.specs.Jobs.{Job}
 use Rattle.machine_state.specs.Core as core
 use Rattle.ti_ids.specs.declared.state.Activity.{Activity}
@@ -41,7 +41,7 @@ thread_line classes core thread = line_in classes core thread thread.state
 
 -- ---- the logs of the agents, from this environment on
 
-abbrev pub logs_from : Job → Trace → ℕ → List jobs.Agent → List AgentLog
+abbrev pub logs_from : Job → Trace → ℕ → List agent_type.Agent → List AgentLog
 logs_from job trace n [] = []
 logs_from job trace n (agent ∷ agents) = record { name = agent.name; lines = log job trace (record { 0 = n }) } ∷ logs_from job trace (n + 1) agents
 

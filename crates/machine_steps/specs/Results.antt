@@ -11,7 +11,7 @@ use Rattle.job_words.specs.Options.{Word}
 use Rattle.job_words.specs.Words.{Given, Request, RunRequest, ReplayRequest, MakeRequest, request_of}
 use Rattle.job_words.specs.Fetches.{Admitted, ◌>>=◌, number_of_files, Files, fetched, fetched_all, fetches, class_contents, donor_contents, agent_contents}
 use Rattle.job_words.specs.Contents.{class_names, schedule_in}
-use Rattle.machine_state.specs.Jobs as jobs
+use Rattle.agent_types.specs.declared.agent.Agent as agent_type
 use Rattle.machine_state.specs.Jobs.{Job, File}
 use Rattle.machine_steps.specs.World.{AgentReading}
 
@@ -28,10 +28,10 @@ named names contents = map (λ file. record { name = file.0; bytes = file.1 }) (
 
 -- what an agent file says, where there are so many donors
 module _ (read_agent : AgentReading) where
-  abbrev pub agent_file : ℕ → ℕ → List ℕ → Admitted jobs.Agent
+  abbrev pub agent_file : ℕ → ℕ → List ℕ → Admitted agent_type.Agent
   agent_file donors place bytes = elim (read_agent bytes donors) [ Err fault ↦ Err (BadAgent place fault) | Ok agent ↦ Ok agent ]
 
-  abbrev pub agent_files : ℕ → ℕ → List (List ℕ) → Admitted (List jobs.Agent)
+  abbrev pub agent_files : ℕ → ℕ → List (List ℕ) → Admitted (List agent_type.Agent)
   agent_files donors place [] = Ok []
   agent_files donors place (bytes ∷ others) =
       agent_file donors place bytes >>= λ agent. agent_files donors (place + 1) others >>= λ agents. Ok (agent ∷ agents)

@@ -5,7 +5,9 @@ use Rattle.ti_ids.specs.declared.number.EnvNo.{EnvNo}
 use Rattle.ti_ids.specs.declared.actor.Actor.{Actor}
 use Rattle.ti_codes.specs.declared.error.ErrorCode.{ErrorCode}
 use Rattle.job_words.specs.declared.agent_fault.AgentFault.{AgentFault}
-use Rattle.machine_state.specs.Jobs.{Agent, Job, Call}
+use Rattle.agent_types.specs.declared.agent.Agent.{Agent}
+use Rattle.agent_types.specs.declared.call.Call.{Call}
+use Rattle.machine_state.specs.Jobs.{Job}
 use Rattle.machine_state.specs.Trace.{Reply}
 use Rattle.machine_state.specs.Versions.{Turns}
 use Rattle.machine_state.specs.Acts.{State, Act}

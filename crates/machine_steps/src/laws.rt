@@ -1,4 +1,5 @@
 ghost use Rattle.machine_steps.specs.Laws.{NoneAfterEnd, HasStepLeft, SomeoneIsEnabled, CountsOne, AddsRecords, PerformsNextCall, OutputGrows, ObjectsStay, FewThreads, ClassesStay, LoadsOnce, StaysFailed, NamesDiffer, FramesAreBorn, CodeStays, PickedCanRun, PickedEnds, FitsLimit, NoEndBefore, StatesNamed, StatesSchedule};
+ghost use Rattle.machine_steps.specs.CheckLaws.{PassesOrFails};
 ghost use Rattle.machine_steps.specs.Bounds.{TasksAreBounded};
 ghost use Rattle.machine_steps.specs.ReportLaws.{PickedIsReported, WrittenIsWritten, ReplaysSame};
 
@@ -33,6 +34,9 @@ pub fn step_laws()
 
     // After every schedule no two classes have the same name.
     ensures names { NamesDiffer }
+
+    // A class passes its type check or fails at one place.
+    ensures checks { PassesOrFails }
 
     // After every schedule every frame was born by now, of classes that are there.
     ensures born { FramesAreBorn }

@@ -6,8 +6,8 @@ use Rattle.ti_ids.specs.declared.actor.Actor.{Actor}
 use Rattle.ti_ids.specs.declared.actor.Actor.TheVariants.{Vm, Thread, Agent}
 use Rattle.ti_ids.specs.Actors.{same_actor}
 use Rattle.report_text.specs.declared.run.Run.{Run}
-use Rattle.report_text.specs.Runs.{joined, runs_of}
-use Rattle.report_text.specs.Stated.{is_joined, expanded}
+use Rattle.report_text.specs.Runs.{with_step, runs_of}
+use Rattle.report_text.specs.Stated.{are_parted, expanded}
 use Rattle.report_text.specs.Named.{IsNamed, AllNamed}
 
 pub same_actor-is : (a b : Actor) → same_actor a b ≡ true → a ≡ b
@@ -24,16 +24,16 @@ same_actor-is (Agent t) (Thread u) h = absurd cc
 abbrev run : Actor → ℕ → Run
 run actor count = record { actor = actor; count = count }
 
-abbrev joined_by : Bool → Actor → Run → List Run → List Run
-joined_by b a r runs = cond b (run a (r.count + 1) ∷ runs) (run a 1 ∷ r ∷ runs)
+abbrev with_step_by : Bool → Actor → Run → List Run → List Run
+with_step_by b a r runs = cond b (run a (r.count + 1) ∷ runs) (run a 1 ∷ r ∷ runs)
 
 one_more : (n : ℕ) (a : Actor) → replicate (n + 1) a ≡ a ∷ replicate n a
 one_more n a = ap (λ (k : ℕ). replicate k a) (let e : n + 1 ≡ suc n = omega arith in e)
 
-expanded-joined : (a : Actor) (runs : List Run) → expanded (joined a runs) ≡ a ∷ expanded runs
-expanded-joined a [] = refl
-expanded-joined a (r ∷ runs) =
-    elim (same_actor a r.actor) as (λ b. same_actor a r.actor ≡ b → expanded (joined_by b a r runs) ≡ a ∷ expanded (r ∷ runs)) [
+expanded-with_step : (a : Actor) (runs : List Run) → expanded (with_step a runs) ≡ a ∷ expanded runs
+expanded-with_step a [] = refl
+expanded-with_step a (r ∷ runs) =
+    elim (same_actor a r.actor) as (λ b. same_actor a r.actor ≡ b → expanded (with_step_by b a r runs) ≡ a ∷ expanded (r ∷ runs)) [
       | true ↦ λ e. ap (λ (w : List Actor). w ++ expanded runs) (one_more r.count a) ∙ ap (λ (x : Actor). a ∷ (replicate r.count x ++ expanded runs)) (same_actor-is a r.actor e)
       | false ↦ λ e. refl
     ] refl
@@ -41,25 +41,25 @@ expanded-joined a (r ∷ runs) =
 -- the runs of a schedule are its steps, in order
 pub expanded-runs_of : (schedule : List Actor) → expanded (runs_of schedule) ≡ schedule
 expanded-runs_of [] = refl
-expanded-runs_of (a ∷ schedule) = expanded-joined a (runs_of schedule) ∙ ap (λ (w : List Actor). a ∷ w) (expanded-runs_of schedule)
+expanded-runs_of (a ∷ schedule) = expanded-with_step a (runs_of schedule) ∙ ap (λ (w : List Actor). a ∷ w) (expanded-runs_of schedule)
 
 -- only a front run's actor counts
-is_joined-front : (a : Actor) (m n : ℕ) (runs : List Run) → is_joined (run a m ∷ runs) ≡ is_joined (run a n ∷ runs)
-is_joined-front a m n [] = refl
-is_joined-front a m n (next ∷ runs) = refl
+are_parted-front : (a : Actor) (m n : ℕ) (runs : List Run) → are_parted (run a m ∷ runs) ≡ are_parted (run a n ∷ runs)
+are_parted-front a m n [] = refl
+are_parted-front a m n (next ∷ runs) = refl
 
-is_joined-joined : (a : Actor) (runs : List Run) → is_joined runs ≡ true → is_joined (joined a runs) ≡ true
-is_joined-joined a [] h = refl
-is_joined-joined a (r ∷ runs) h =
-    elim (same_actor a r.actor) as (λ b. same_actor a r.actor ≡ b → is_joined (joined_by b a r runs) ≡ true) [
-      | true ↦ λ e. ap (λ (x : Actor). is_joined (run x (r.count + 1) ∷ runs)) (same_actor-is a r.actor e) ∙ is_joined-front r.actor (r.count + 1) r.count runs ∙ h
+are_parted-with_step : (a : Actor) (runs : List Run) → are_parted runs ≡ true → are_parted (with_step a runs) ≡ true
+are_parted-with_step a [] h = refl
+are_parted-with_step a (r ∷ runs) h =
+    elim (same_actor a r.actor) as (λ b. same_actor a r.actor ≡ b → are_parted (with_step_by b a r runs) ≡ true) [
+      | true ↦ λ e. ap (λ (x : Actor). are_parted (run x (r.count + 1) ∷ runs)) (same_actor-is a r.actor e) ∙ are_parted-front r.actor (r.count + 1) r.count runs ∙ h
       | false ↦ λ e. rw (e, h) refl
     ] refl
 
 -- neighbouring runs of a schedule have different actors
-pub is_joined-runs_of : (schedule : List Actor) → is_joined (runs_of schedule) ≡ true
-is_joined-runs_of [] = refl
-is_joined-runs_of (a ∷ schedule) = is_joined-joined a (runs_of schedule) (is_joined-runs_of schedule)
+pub are_parted-runs_of : (schedule : List Actor) → are_parted (runs_of schedule) ≡ true
+are_parted-runs_of [] = refl
+are_parted-runs_of (a ∷ schedule) = are_parted-with_step a (runs_of schedule) (are_parted-runs_of schedule)
 
 -- a run of one to `most` steps, of an actor that a line can name
 pub record IsWithin (most : ℕ) (r : Run) : Type 0 where
@@ -75,10 +75,10 @@ looser : (most : ℕ) (runs : List Run) → AllWithin most runs → AllWithin (m
 looser most [] h = tt
 looser most (r ∷ runs) h = let w = h.0 in (record { named = w.named; some = w.some; short = omega (arith, w.short) }, looser most runs h.1)
 
-within-joined : (most : ℕ) (a : Actor) (runs : List Run) → IsNamed a → AllWithin most runs → AllWithin (most + 1) (joined a runs)
-within-joined most a [] n h = (record { named = n; some = omega arith; short = omega arith }, tt)
-within-joined most a (r ∷ runs) n h =
-    elim (same_actor a r.actor) as (λ b. AllWithin (most + 1) (joined_by b a r runs)) [
+within-with_step : (most : ℕ) (a : Actor) (runs : List Run) → IsNamed a → AllWithin most runs → AllWithin (most + 1) (with_step a runs)
+within-with_step most a [] n h = (record { named = n; some = omega arith; short = omega arith }, tt)
+within-with_step most a (r ∷ runs) n h =
+    elim (same_actor a r.actor) as (λ b. AllWithin (most + 1) (with_step_by b a r runs)) [
       | true ↦ let w = h.0 in (record { named = n; some = omega arith; short = omega (arith, w.short) }, looser most runs h.1)
       | false ↦ (record { named = n; some = omega arith; short = omega arith }, looser most (r ∷ runs) h)
     ]
@@ -88,4 +88,4 @@ pub within-runs_of : (schedule : List Actor) → AllNamed schedule → AllWithin
 within-runs_of [] h = tt
 within-runs_of (a ∷ schedule) h =
     let e : length schedule + 1 ≡ length (a ∷ schedule) = omega arith in
-    subst (λ (k : ℕ). AllWithin k (runs_of (a ∷ schedule))) e (within-joined (length schedule) a (runs_of schedule) h.0 (within-runs_of schedule h.1))
+    subst (λ (k : ℕ). AllWithin k (runs_of (a ∷ schedule))) e (within-with_step (length schedule) a (runs_of schedule) h.0 (within-runs_of schedule h.1))

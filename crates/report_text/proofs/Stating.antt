@@ -11,10 +11,10 @@ use Rattle.report_text.specs.declared.parts.ReportParts.{ReportParts}
 use Rattle.report_text.specs.Runs.{runs_of}
 use Rattle.report_text.specs.Named.{IsNumber, IsNamed, AllNamed}
 use Rattle.report_text.specs.Texts.{line, actor_text, run_text, schedule_text, end_texts, back_texts, report_text}
-use Rattle.report_text.specs.Stated.{numeral, stated_actor, stated_pair, stated_runs, stated_words, is_joined, expanded, first_line, stated}
+use Rattle.report_text.specs.Stated.{numeral, stated_actor, stated_pair, stated_runs, stated_words, are_parted, expanded, first_line, stated}
 use Rattle.report_text.proofs.Pieces.{lacks, lacks-append, lacks-printed, parts-then, parts-last, parts-line}
 use Rattle.report_text.proofs.Numerals.{numeral-decimal, lacks-decimal}
-use Rattle.report_text.proofs.Joining.{AllWithin, within-runs_of, is_joined-runs_of, expanded-runs_of}
+use Rattle.report_text.proofs.Joining.{AllWithin, within-runs_of, are_parted-runs_of, expanded-runs_of}
 
 stated_actor-actor_text : (a : Actor) → IsNamed a → stated_actor (actor_text a) ≡ Some a
 stated_actor-actor_text Vm h = refl
@@ -76,10 +76,10 @@ stated_runs-words (r ∷ runs) g =
     ∙ ap (λ (q : Option (List Run)). q >>= (λ rest. Some (r ∷ rest))) (stated_runs-words runs g.1)
 
 -- the schedule line states its runs
-stated_words-schedule_text : (runs : List Run) → AllStatable runs → is_joined runs ≡ true → stated_words (parts 32 (schedule_text runs)) ≡ Some (expanded runs)
+stated_words-schedule_text : (runs : List Run) → AllStatable runs → are_parted runs ≡ true → stated_words (parts 32 (schedule_text runs)) ≡ Some (expanded runs)
 stated_words-schedule_text runs g differ =
     ap stated_words (words-apart (codes "schedule") runs refl g)
-    ∙ ap (λ (q : Option (List Run)). q >>= (λ runs. cond (is_joined runs) (Some (expanded runs)) None)) (stated_runs-words runs g)
+    ∙ ap (λ (q : Option (List Run)). q >>= (λ runs. cond (are_parted runs) (Some (expanded runs)) None)) (stated_runs-words runs g)
     ∙ ap (λ (b : Bool). cond b (Some (expanded runs)) None) differ
 
 lacks_feed-words : (runs : List Run) → AllStatable runs → lacks 10 (flat_map run_text runs) ≡ true
@@ -105,7 +105,7 @@ stated-lines name schedule texts m n few =
     let all : parts 10 (flat_map line (codes "report 1" ∷ codes "profile 1" ∷ title ∷ whole ∷ texts)) ≡ codes "report 1" ∷ codes "profile 1" ∷ title ∷ whole ∷ parts 10 (flat_map line texts) =
     ap (λ (w : List (List ℕ)). codes "report 1" ∷ codes "profile 1" ∷ w) apart in
     ap (λ (w : List (List ℕ)). first_line (codes "schedule") w >>= (λ s. stated_words (parts 32 s))) all
-    ∙ stated_words-schedule_text runs good (is_joined-runs_of schedule)
+    ∙ stated_words-schedule_text runs good (are_parted-runs_of schedule)
     ∙ ap (λ (w : List Actor). Some w) (expanded-runs_of schedule)
 
 -- the text of a report states the schedule of its runs

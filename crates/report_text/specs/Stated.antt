@@ -61,10 +61,10 @@ stated_runs (word ∷ words) = do
   Some (run ∷ runs)
 
 -- whether neighbouring runs have different actors
-abbrev pub is_joined : List Run → Bool
-is_joined [] = true
-is_joined (run ∷ []) = true
-is_joined (run ∷ (next ∷ runs)) = not (same_actor run.actor next.actor) && is_joined (next ∷ runs)
+abbrev pub are_parted : List Run → Bool
+are_parted [] = true
+are_parted (run ∷ []) = true
+are_parted (run ∷ (next ∷ runs)) = not (same_actor run.actor next.actor) && are_parted (next ∷ runs)
 
 -- the actors of all steps
 abbrev pub expanded : List Run → List Actor
@@ -73,7 +73,7 @@ expanded runs = flat_map (λ run. replicate run.count run.actor) runs
 -- the word `schedule`, and a run behind each space
 abbrev pub stated_words : List (List ℕ) → Option (List Actor)
 stated_words [] = None
-stated_words (word ∷ words) = if bytes_eq word (codes "schedule") then (stated_runs words >>= (λ runs. if is_joined runs then Some (expanded runs) else None)) else None
+stated_words (word ∷ words) = if bytes_eq word (codes "schedule") then (stated_runs words >>= (λ runs. if are_parted runs then Some (expanded runs) else None)) else None
 
 -- the first line that begins so
 abbrev pub first_line : List ℕ → List (List ℕ) → Option (List ℕ)

@@ -1,5 +1,5 @@
 ghost use Rattle.std.specs.Prelude.{◌≡◌, ◌+◌, ◌-◌, ◌<◌, ◌^◌, length, reverse, sum_by, IfOk, OnOk};
-ghost use Rattle.report_text.specs.Runs.{joined, runs_of as runs_in};
+ghost use Rattle.report_text.specs.Runs.{with_step, runs_of as runs_in};
 
 use crate::{Run, Runs};
 use std::alloc::{AllocError, Global};
@@ -24,7 +24,7 @@ pub fn runs_of(alloc: Global, actors: &[Actor]) -> Result<Runs, AllocError>
 #[tactic(auto, using(crate::proofs::Stacks::sum_by_one, crate::proofs::Stacks::reverse_one))]
 fn join(runs: &mut Vec<Run>, actor: Actor) -> Result<(), AllocError>
     requires { sum_by (λ r. r.count) runs.old.items < 2 ^ 32 - 1 }
-    ensures joined { OnOk result (reverse runs.new.items ≡ joined actor (reverse runs.old.items)) }
+    ensures joined { OnOk result (reverse runs.new.items ≡ with_step actor (reverse runs.old.items)) }
     ensures count { OnOk result (sum_by (λ r. r.count) runs.new.items
         ≡ sum_by (λ r. r.count) runs.old.items + 1) }
 {

@@ -3,9 +3,9 @@ use Rattle.std.proofs.Common.{◌≡◌, ◌∙◌, ℤ, pos, Bool, Option, Some
 use Rattle.std.specs.Prelude.{if◌then◌else◌, unwrap_or}
 use Rattle.std.proofs.lemmas.Bool.{eq-eqb}
 use Rattle.ti_ids.specs.declared.number.ObjNo.{ObjNo}
-use Rattle.change_list.proofs.Changes.{last_decides, goes_on}
+use Rattle.change_list.proofs.Changes.{last_decides, none_speaks, goes_on}
 use Rattle.tag_map.specs.Tags.{Sets, Ends, tag_said, tag_of}
-use Rattle.tag_map.specs.Laws.{SetsTag, LeavesTag, EndsTags}
+use Rattle.tag_map.specs.Laws.{SetsTag, LeavesTag, EndsTags, NoneTagged}
 
 -- a change that tags an object says its tag
 pub set_said : (object : ObjNo) (tag : ℤ) → tag_said object (Sets object tag) ≡ Some tag
@@ -20,3 +20,6 @@ leaves_tag object changes more silent =
 
 pub ends_tags : EndsTags
 ends_tags object before after silent = last_decides (tag_said object) (pos 0) (pos 0) before after Ends refl silent
+
+pub none_tagged : NoneTagged
+none_tagged object changes silent = none_speaks (tag_said object) (pos 0) changes silent

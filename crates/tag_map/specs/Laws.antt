@@ -18,3 +18,7 @@ LeavesTag = (object : ObjNo) (changes : List Change) (more : Change) → tag_sai
 abbrev pub EndsTags : Type 0
 EndsTags = (object : ObjNo) (before after : List Change) → AreSilent (tag_said object) after
     → tag_of object (before ++ Ends ∷ after) ≡ pos 0
+
+-- An object of which no change speaks has no tag.
+abbrev pub NoneTagged : Type 0
+NoneTagged = (object : ObjNo) (changes : List Change) → AreSilent (tag_said object) changes → tag_of object changes ≡ pos 0

@@ -1,4 +1,4 @@
-ghost use Rattle.tag_map.specs.Laws.{SetsTag, LeavesTag, EndsTags};
+ghost use Rattle.tag_map.specs.Laws.{SetsTag, LeavesTag, EndsTags, NoneTagged};
 
 /// Does nothing, and is there for its contract: the laws of tags.
 pub fn tag_laws()
@@ -10,4 +10,7 @@ pub fn tag_laws()
 
     // After the end no object has a tag, until one is set again.
     ensures ended { EndsTags }
+
+    // An object of which no change speaks has no tag.
+    ensures untagged { NoneTagged }
 {}

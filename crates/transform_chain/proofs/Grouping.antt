@@ -22,7 +22,7 @@ module _ {T : Type 0} where
   kept n true t ts e all = (eqb-true t.group n e, all)
   kept n false t ts e all = all
 
-  are : (n : ℕ) (ts : List (Active T)) → Are n (of_group n ts)
+  pub are : (n : ℕ) (ts : List (Active T)) → Are n (of_group n ts)
   are n [] = tt
   are n (t ∷ ts) = kept n (t.group == n) t (of_group n ts) refl (are n ts)
 
@@ -38,7 +38,7 @@ module _ {T : Type 0} where
   later m n [] many all = tt
   later m n (t ∷ ts) many all = (omega (arith, many, all.0), later m n ts many all.1)
 
-  all_of_both : (P : Active T → Type 0) (xs ys : List (Active T)) → AllByRecursion P xs → AllByRecursion P ys → AllByRecursion P (xs ++ ys)
+  pub all_of_both : (P : Active T → Type 0) (xs ys : List (Active T)) → AllByRecursion P xs → AllByRecursion P ys → AllByRecursion P (xs ++ ys)
   all_of_both P [] ys all both = both
   all_of_both P (x ∷ xs) ys all both = (all.0, all_of_both P xs ys all.1 both)
 

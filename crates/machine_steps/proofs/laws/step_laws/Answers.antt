@@ -6,6 +6,7 @@ use Rattle.machine_steps.proofs.FailedLoads.{stays_failed}
 use Rattle.machine_steps.proofs.Births.{frames_are_born}
 use Rattle.machine_steps.proofs.StayingCode.{code_stays}
 use Rattle.machine_steps.proofs.DifferingNames.{names_differ}
+use Rattle.machine_steps.proofs.CheckLaws.{passes_or_fails}
 use Rattle.machine_steps.proofs.laws.step_laws.Goals as goal
 
 pub returns-clause-counts : goal.returns-clause-counts
@@ -43,3 +44,6 @@ returns-clause-born c = frames_are_born
 
 pub returns-clause-names : goal.returns-clause-names
 returns-clause-names c = names_differ
+
+pub returns-clause-checks : goal.returns-clause-checks
+returns-clause-checks c = passes_or_fails

@@ -1,4 +1,4 @@
-use Rattle.tag_map.proofs.Tagging.{sets_tag, leaves_tag, ends_tags}
+use Rattle.tag_map.proofs.Tagging.{sets_tag, leaves_tag, ends_tags, none_tagged}
 use Rattle.tag_map.proofs.laws.tag_laws.Goals as goal
 
 pub returns-clause-set : goal.returns-clause-set
@@ -9,3 +9,6 @@ returns-clause-others c = leaves_tag
 
 pub returns-clause-ended : goal.returns-clause-ended
 returns-clause-ended c = ends_tags
+
+pub returns-clause-untagged : goal.returns-clause-untagged
+returns-clause-untagged c = none_tagged
