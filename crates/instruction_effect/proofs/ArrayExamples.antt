@@ -1,5 +1,5 @@
 -- Division and arrays, computed.
-use Rattle.std.proofs.Common.{◌≡◌, ℕ, pos, negsuc, List, [], ◌∷◌, None, refl}
+use Rattle.std.proofs.Common.{◌≡◌, ℕ, pos, negsuc, List, [], ◌∷◌, ◌++◌, None, refl}
 use Rattle.std.specs.Prelude.{codes}
 use Rattle.std.specs.Int.{int_wrap}
 use Rattle.ti_ids.specs.declared.value.Value.{Value}
@@ -100,6 +100,34 @@ module _ (core : Core) (thread : Thread) (pin : Pin) where
   multi-misfit : multi 14 (Long (pos 0) ∷ Int (negsuc 0) ∷ []) ≡ Throws [] (codes "java/lang/InternalError")
   unfolding class_end dimensions split_class split_dimensions read_class read_element read_type read_field type_of
   multi-misfit = refl
+
+  -- two by two by one, where the class of the innermost is there: 4 words, 4 for each of the two, and 3 for each of their two
+  abbrev cube : ℕ → List Value → Outcome
+  cube limit entries =
+      array_outcome (at limit [] (vectors_of (codes "[I") element.Int ∷ []) (const.Class 2 ∷ const.Utf8 (codes "[[[I") ∷ []) entries)
+      (instr.MultiNewArray 1 3)
+
+  abbrev makes : ℕ → List Value → Act
+  makes n elements = Changes (Makes (fresh (record { 0 = n }) (Elements elements)))
+
+  abbrev sets : ℕ → ℕ → ℕ → Act
+  sets array place n = Changes (PutsElement (record { 0 = array }) place (reference n))
+
+  -- what is done before the last is made
+  abbrev most : List Act
+  most =
+      Changes (AddsClass (codes "[[[I") states.Initialized) ∷ makes 2 (Ref None ∷ Ref None ∷ [])
+      ∷ Changes (AddsClass (codes "[[I") states.Initialized) ∷ makes 3 (Ref None ∷ Ref None ∷ []) ∷ makes 1 (Int (pos 0) ∷ []) ∷ sets 2 0 3
+      ∷ makes 1 (Int (pos 0) ∷ []) ∷ sets 2 1 4 ∷ sets 1 0 2 ∷ makes 3 (Ref None ∷ Ref None ∷ []) ∷ makes 1 (Int (pos 0) ∷ []) ∷ sets 5 0 6 ∷ []
+
+  cube-full_amid_inner : cube 23 (Int (pos 1) ∷ Int (pos 2) ∷ Int (pos 2) ∷ []) ≡ Fills most
+  unfolding class_end dimensions split_class split_dimensions read_class read_element read_type read_field type_of
+  cube-full_amid_inner = refl
+
+  cube-just_room : cube 24 (Int (pos 1) ∷ Int (pos 2) ∷ Int (pos 2) ∷ [])
+      ≡ leaves (most ++ makes 1 (Int (pos 0) ∷ []) ∷ sets 5 1 7 ∷ sets 1 1 5 ∷ []) (reference 1 ∷ [])
+  unfolding class_end dimensions split_class split_dimensions read_class read_element read_type read_field type_of
+  cube-just_room = refl
 
   -- an instruction in the sight of an array of three elements of one kind, the first of which is this
   abbrev over : Element → Value → Simple → List Value → Outcome

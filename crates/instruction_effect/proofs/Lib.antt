@@ -5,3 +5,9 @@ pub mod ArrayExamples
 pub mod FieldExamples
 pub mod ObjectExamples
 pub mod MonitorExamples
+pub mod EntryExamples
+pub mod ArrayClasses
+pub mod FittingForms
+pub mod FittingObjects
+pub mod FittingBase
+pub mod FittingCalls

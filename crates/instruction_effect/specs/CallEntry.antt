@@ -11,12 +11,14 @@ use Rattle.ti_ids.specs.declared.value.Value.TheVariants as value
 use Rattle.jv_names.specs.Names.{Name}
 use Rattle.class_tree.specs.declared.access.Flag.TheVariants as flags
 use Rattle.java_heap.specs.declared.object.Content.TheVariants.{Elements}
+use Rattle.java_heap.specs.Heaps.{class_object_of}
 use Rattle.thread_frames.specs.Frame.{new_frame}
 use Rattle.link_versions.specs.Classes.{Class}
 use Rattle.link_versions.specs.Members.{declared_method, method_has}
 use Rattle.machine_state.specs.Core.{Core, Thread}
 use Rattle.machine_state.specs.Acts.{Act, Changes, SetsState, core_after}
 use Rattle.instruction_effect.specs.Outcomes.{Site, Outcome, Goes, when_loaded, when_ready, when_room, makes_announced}
+use Rattle.instruction_effect.specs.Monitors.{unless_owned}
 use Rattle.instruction_effect.specs.Arguments.{unborn}
 use Rattle.instruction_effect.specs.Invoking.{abstract_method, no_method, unselected, calls}
 use Rattle.instruction_effect.specs.BaseThreads.{RunMethod, NoRun, RunOf, LacksRun, run_at, calls_run}
@@ -66,11 +68,20 @@ abbrev pub with_array : Site → MethodNo → List Act → ClassNo → Outcome
 with_array site m before n =
     when_room site.core.heap before (makes_announced site.t site.core.heap n (Elements []) string_array) (Elements []) (calls_main site m)
 
+-- A synchronized `main` needs the monitor of its class's Class object, which nobody owns before it is made. While another thread owns it
+-- no array is made, and no room is asked for. A thread without frames is refused no frame, so that the monitor is seen first.
+abbrev pub when_enterable : Site → MethodNo → Outcome → Outcome
+when_enterable site m so =
+    if method_has site.classes flags.Synchronized m
+    then elim (class_object_of site.core.heap m.class) [ None ↦ so | Some object ↦ unless_owned site object so ]
+    else so
+
 -- Without a static `main`, and where it is abstract, no array is made.
 abbrev pub enters_main : Site → Option MethodNo → Outcome
 enters_main site None = no_method []
 enters_main site (Some m) =
-    if method_has site.classes flags.Abstract m then abstract_method [] else when_loaded site string_array (with_array site m)
+    if method_has site.classes flags.Abstract m then abstract_method []
+    else when_loaded site string_array (λ before n. when_enterable site m (with_array site m before n))
 
 -- The main class, of this name, must be loaded and initialized.
 abbrev pub enters_first : Site → Name → Outcome

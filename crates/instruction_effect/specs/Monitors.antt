@@ -38,8 +38,10 @@ wanting_acts site object =
     let wanting = Changes (SetsActivity site.t (Wanting object)) ∷ [] in
     if wants site.thread.activity object then wanting else raises (MonitorContendedEnter site.t object) ∷ wanting
 
--- The monitor must be entered, and what comes then goes by the acts that enter it. While another thread owns it the frame stays at the
--- instruction.
+-- What is to come needs the monitor. While another thread owns it the frame stays at the instruction.
+abbrev pub unless_owned : Site → ObjNo → Outcome → Outcome
+unless_owned site object so = if may_enter site.t (monitor_at site.core object).owner then so else Goes (wanting_acts site object)
+
+-- The monitor must be entered, and what comes then goes by the acts that enter it.
 abbrev pub entering : Site → ObjNo → (List Act → Outcome) → Outcome
-entering site object so =
-    if may_enter site.t (monitor_at site.core object).owner then so (entering_acts site object) else Goes (wanting_acts site object)
+entering site object so = unless_owned site object (so (entering_acts site object))

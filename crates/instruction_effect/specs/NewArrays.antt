@@ -1,28 +1,26 @@
 -- `newarray`, `anewarray` and `multianewarray` (JVM specification 2.4 and 6.5). Their objects are made without an event.
-use Rattle.std.specs.Prelude.{ℕ, zero, suc, ◌+◌, ℤ, pos, negsuc, Bool, true, false, ◌&&◌, nat_le, List, [], ◌∷◌, ◌++◌, drop, replicate, Option, Some, None, codes, if◌then◌else◌}
+use Rattle.std.specs.Prelude.{ℕ, zero, suc, ◌+◌, ◌-◌, ◌*◌, ℤ, pos, negsuc, Bool, ◌&&◌, nat_le, List, [], ◌∷◌, ◌++◌, length, drop, replicate, flat_map, Option, Some, None, codes, if◌then◌else◌}
+use Rattle.std.specs.List.{range_with_len}
 use Rattle.ti_ids.specs.Maybe.{◌>>=◌}
 use Rattle.ti_ids.specs.declared.number.ObjNo.{ObjNo}
 use Rattle.ti_ids.specs.declared.number.ClassNo.{ClassNo}
-use Rattle.ti_ids.specs.declared.value.Value.{Value}
 use Rattle.ti_ids.specs.declared.value.Value.TheVariants as value
 use Rattle.jv_names.specs.Names.{Name}
 use Rattle.class_code.specs.declared.instr.Primitive.{Primitive}
 use Rattle.class_code.specs.declared.instr.Primitive.TheVariants as primitive
 use Rattle.class_tree.specs.Tree.{class_at}
 use Rattle.thread_frames.specs.Operands.{OperandStack}
-use Rattle.java_heap.specs.declared.object.Object.{Object}
 use Rattle.java_heap.specs.declared.object.Content.{Content}
 use Rattle.java_heap.specs.declared.object.Content.TheVariants.{Elements}
-use Rattle.java_heap.specs.Objects.{fresh}
-use Rattle.java_heap.specs.Heaps.{HeapValue, next_number}
-use Rattle.java_heap.specs.Changes.{with_elem}
+use Rattle.java_heap.specs.Objects.{fresh, words_of}
+use Rattle.java_heap.specs.Heaps.{words_taken, next_number}
 use Rattle.ti_ids.specs.declared.state.InitState.TheVariants as states
 use Rattle.link_versions.specs.Classes.{Class, number_of}
 use Rattle.link_versions.specs.Subtypes.{type_of}
 use Rattle.bytecode_local.specs.Kinds.{int_at}
 use Rattle.machine_state.specs.Linked.{array_type}
 use Rattle.machine_state.specs.Acts.{Act, Changes, Makes, PutsElement, AddsClass}
-use Rattle.instruction_effect.specs.Outcomes.{Site, Outcome, Throws, Fills, misfit, or_misfit, when_room, next_class, heap_has_room}
+use Rattle.instruction_effect.specs.Outcomes.{Site, Outcome, Throws, Fills, misfit, or_misfit, when_room, next_class}
 use Rattle.instruction_effect.specs.Operands.{kind_of_desc, zero_of, gives_object, classes_with, when_there}
 
 -- ---- names of array classes: descriptors (section 4.4.1)
@@ -67,58 +65,60 @@ newarray_outcome site of = new_array site (primitive_array of)
 abbrev pub anewarray_outcome : Site → ℕ → Outcome
 anewarray_outcome site index = or_misfit (class_at site.pool index) (λ name. new_array site (array_over name))
 
--- ---- arrays in arrays. An array of lengths n, m, .. has n elements, each of which is an array of lengths m, ..; an array is made before
--- what its elements hold, and its elements are given theirs in their order, until one is refused.
+-- ---- arrays in arrays. An array of lengths n, m, .. has n elements, each of which is an array of lengths m, ..; the elements of the arrays
+-- of the last length stay as they begin. An array is made before those that its elements hold, element by element, and an element is set
+-- once its array has all that it holds. So the number of each is known before.
 
--- How far they are made: the classes and the heap as they are then, the acts so far, and whether one was refused for want of room. Then no
--- further one is made.
-pub record Progress : Type 0 where
-  pub classes : List Class
-  pub heap : HeapValue
-  pub acts : List Act
-  pub full : Bool
+-- how many arrays one of these lengths is, with all that it holds
+abbrev pub array_count : List ℕ → ℕ
+array_count [] = 0
+array_count (n ∷ inner) = 1 + n * array_count inner
 
-abbrev pub unless_full : (Progress → Progress) → Progress → Progress
-unless_full next p = if p.full then p else next p
+-- the number of the array, of these lengths, in an element: those of the elements before it come right behind the array that has it
+abbrev pub number_in : ObjNo → List ℕ → ℕ → ObjNo
+number_in array inner place = record { 0 = array.0 + 1 + place * array_count inner }
 
--- the class of an array type is added
-abbrev pub with_array_class : Name → Progress → Progress
-with_array_class name p = record p { classes = classes_with p.classes name; acts = p.acts ++ Changes (AddsClass name states.Initialized) ∷ [] }
+-- the classes with that of an array of these lengths, and those of all that it holds
+abbrev pub with_array_classes : List Class → List ℕ → Name → List Class
+with_array_classes classes [] name = classes
+with_array_classes classes (n ∷ inner) name = with_array_classes (classes_with classes name) inner (component_name name)
 
--- an object is made, or refused
-abbrev pub with_object : Object → Progress → Progress
-with_object object p =
-    if heap_has_room p.heap object.content
-    then record p { heap = record p.heap { objects = p.heap.objects ++ object ∷ [] }; acts = p.acts ++ Changes (Makes object) ∷ [] }
-    else record p { full = true }
+-- the classes at the making of what an element holds: the first element's arrays are the first ones of their classes
+abbrev pub classes_at : List Class → List ℕ → Name → ℕ → List Class
+classes_at classes lengths name zero = classes_with classes name
+classes_at classes lengths name (suc place) = with_array_classes classes lengths name
 
--- an element is set
-abbrev pub with_element : ObjNo → ℕ → Value → Progress → Progress
-with_element array place v p = record p { heap = with_elem p.heap array place v; acts = p.acts ++ Changes (PutsElement array place v) ∷ [] }
-
--- one array of this class and length; the class is made where it isn't there
-abbrev pub with_one : Name → ℕ → Progress → Progress
-with_one name n p = elim (number_of p.classes name) [
-  | Some class ↦ with_object (fresh class (first_elements name n)) p
-  | None ↦ with_object (fresh (next_class p.classes) (first_elements name n)) (with_array_class name p)
+-- One array of this class and length; the class is added where it isn't there.
+abbrev pub makes_one : List Class → Name → ℕ → List Act
+makes_one classes name n = elim (number_of classes name) [
+  | Some class ↦ Changes (Makes (fresh class (first_elements name n))) ∷ []
+  | None ↦ Changes (AddsClass name states.Initialized) ∷ Changes (Makes (fresh (next_class classes) (first_elements name n))) ∷ []
 ]
 
--- an element gets an array with all that it holds
-abbrev pub with_inner : (Progress → Progress) → ObjNo → ℕ → Progress → Progress
-with_inner make array place p = unless_full (with_element array place (value.Ref (Some (next_number p.heap)))) (make p)
+abbrev pub sets_element : ObjNo → ℕ → ObjNo → Act
+sets_element array place held = Changes (PutsElement array place (value.Ref (Some held)))
 
--- so many elements from this place on get one each, in order
-abbrev pub with_all_inner : (Progress → Progress) → ObjNo → ℕ → ℕ → Progress → Progress
-with_all_inner make array place zero p = p
-with_all_inner make array place (suc more) p = unless_full (with_all_inner make array (place + 1) more) (with_inner make array place p)
+-- an array of these lengths, which gets this number, with all that it holds
+abbrev pub makes_arrays : List Class → List ℕ → Name → ObjNo → List Act
+makes_arrays classes [] name array = []
+makes_arrays classes (n ∷ []) name array = makes_one classes name n
+makes_arrays classes (n ∷ m ∷ inner) name array =
+    makes_one classes name n ++ flat_map (λ place.
+    let held = number_in array (m ∷ inner) place in
+    makes_arrays (classes_at classes (n ∷ m ∷ inner) name place) (m ∷ inner) (component_name name) held ++ sets_element array place held ∷ []
+    ) (range_with_len 0 n)
 
--- An array of these lengths, the outermost first: it is made, and then what its elements hold. The last length is that of arrays whose
--- elements stay as they begin.
-abbrev pub with_arrays : List ℕ → Name → Progress → Progress
-with_arrays [] name p = p
-with_arrays (n ∷ []) name p = with_one name n p
-with_arrays (n ∷ m ∷ inner) name p =
-    unless_full (with_all_inner (with_arrays (m ∷ inner) (component_name name)) (next_number p.heap) 0 n) (with_one name n p)
+-- ---- as far as there is room
+
+-- the heap words of the object that an act makes
+abbrev pub words_made : Act → ℕ
+words_made (Changes (Makes object)) = words_of object.content
+words_made act = 0
+
+-- the acts up to the first object that doesn't fit in so many heap words
+abbrev pub while_room : ℕ → List Act → List Act
+while_room words [] = []
+while_room words (act ∷ acts) = if nat_le (words_made act) words then act ∷ while_room (words - words_made act) acts else []
 
 -- ---- multianewarray
 
@@ -133,14 +133,19 @@ sizes_of [] = Some []
 sizes_of (pos n ∷ lengths) = sizes_of lengths >>= λ ns. Some (n ∷ ns)
 sizes_of (negsuc n ∷ lengths) = None
 
--- The object of the next number is the outermost array.
-abbrev pub given : Site → ℕ → Progress → Outcome
-given site count p = if p.full then Fills p.acts else gives_object site p.acts count (next_number site.core.heap)
+-- These acts are done as far as there is room. The first object that they make is the outermost array.
+abbrev pub given : Site → ℕ → List Act → List Act → Outcome
+given site count before making =
+    let done = while_room (site.core.heap.limit - words_taken site.core.heap) making in
+    elim (drop (length done) making) [
+      | [] ↦ gives_object site (before ++ done) count (next_number site.core.heap)
+      | act ∷ more ↦ Fills (before ++ done)
+    ]
 
 abbrev pub new_of_sizes : Site → List Act → Name → ℕ → Option (List ℕ) → Outcome
 new_of_sizes site acts name count None = negative_length acts
 new_of_sizes site acts name count (Some sizes) =
-    given site count (with_arrays sizes name (record { classes = site.classes; heap = site.core.heap; acts = acts; full = false }))
+    given site count acts (makes_arrays site.classes sizes name (next_number site.core.heap))
 
 -- There is at least one length, and at most one for each dimension of the class.
 abbrev pub has_dimensions : Site → ClassNo → ℕ → Bool

@@ -19,3 +19,4 @@ pub mod Installing
 pub mod ByNumber
 pub mod NumberLaws
 pub mod ArrayEntries
+mod NewNumbers

@@ -98,3 +98,8 @@ IsDefined = (find : Name → Option ClassNo) (t : Tree) (classes : List Class)
 abbrev pub IsNumbered : Type 0
 IsNumbered = (find : Name → Option ClassNo) (t : Tree) (classes : List Class)
     → method_names (file_class find t ∷ classes) (next_class classes) ≡ names_in t
+
+-- By its name the new one has the next number, be it of a file or of an array, and every other name keeps the number that it had.
+pub record NumbersNew : Type 0 where
+  pub new : (c : Class) (classes : List Class) → number_of (c ∷ classes) c.name ≡ Some (next_class classes)
+  pub others : (c : Class) (classes : List Class) (name : Name) → name ≢ c.name → number_of (c ∷ classes) name ≡ number_of classes name

@@ -1,4 +1,5 @@
 ghost use Rattle.link_versions.specs.Laws.{IsInstalled, IsNewest, KeepsVersions, KeepsNumbers, KeepsOrders, KeepsSuperclasses, KeepsStates, KeepsMethodNumbers, IsDeclaredAs, LetsGo, LetsIn, KeepsClasses, IsDefined, IsNumbered};
+ghost use Rattle.link_versions.specs.Laws.{NumbersNew};
 
 /// Does nothing, and is there for its contract: the laws of the lists of classes, of which the contracts of `Classes` speak.
 pub fn class_laws()
@@ -23,4 +24,7 @@ pub fn class_laws()
     ensures classes { KeepsClasses }
     ensures defined { IsDefined }
     ensures numbered { IsNumbered }
+
+    // By its name it has the next number, and every other name keeps its own.
+    ensures new_numbers { NumbersNew }
 {}

@@ -60,7 +60,7 @@ alike_kind (c ∷ cs) (d ∷ ds) n h = rw (alike_length cs ds h.1.1) (kind_by (n
 
 -- ---- linked classes
 
-linked_length : (job : Job) (turns : Turns) (trace : Trace) (classes : List CoreClass) → length (linked job turns trace classes) ≡ length classes
+pub linked_length : (job : Job) (turns : Turns) (trace : Trace) (classes : List CoreClass) → length (linked job turns trace classes) ≡ length classes
 unfolding linked
 linked_length job turns trace [] = refl
 linked_length job turns trace (c ∷ older) = ap (λ (n : ℕ). suc n) (linked_length job turns trace older)
@@ -77,7 +77,7 @@ name_by : (job : Job) (turns : Turns) (find : Find) (c : CoreClass) (type : Opti
 name_by job turns find c None ts = trees_name job turns find c ts
 name_by job turns find c (Some t) ts = refl
 
-linked_name : (job : Job) (turns : Turns) (trace : Trace) (find : Find) (c : CoreClass) → (linked_class job turns trace find c).name ≡ c.name
+pub linked_name : (job : Job) (turns : Turns) (trace : Trace) (find : Find) (c : CoreClass) → (linked_class job turns trace find c).name ≡ c.name
 linked_name job turns trace find c = name_by job turns find c (array_type c.name) (trees job turns trace c.name)
 
 trees_kind : (job : Job) (turns : Turns) (find : Find) (c : CoreClass) (ts : List Tree) → (class_of_trees job turns find c ts).kind ≡ OfFile ts
@@ -94,7 +94,7 @@ kind_of_class : (job : Job) (turns : Turns) (find : Find) (c : CoreClass) (type 
 kind_of_class job turns find c None ts = trees_kind job turns find c ts
 kind_of_class job turns find c (Some t) ts = refl
 
-linked_kind : (job : Job) (turns : Turns) (trace : Trace) (find : Find) (c : CoreClass)
+pub linked_kind : (job : Job) (turns : Turns) (trace : Trace) (find : Find) (c : CoreClass)
     → (linked_class job turns trace find c).kind ≡ kind_in find (array_type c.name) (trees job turns trace c.name)
 linked_kind job turns trace find c = kind_of_class job turns find c (array_type c.name) (trees job turns trace c.name)
 
@@ -133,15 +133,15 @@ linked_alike job turns trace (c ∷ cs) (d ∷ ds) e =
 
 -- ---- further classes before them
 
-past_by : (b : Bool) (c : Class) (x : Option Class) → b ≡ false → option_map (λ c. c.kind) (cond b (Some c) x) ≡ option_map (λ c. c.kind) x
+pub past_by : (b : Bool) (c : Class) (x : Option Class) → b ≡ false → option_map (λ c. c.kind) (cond b (Some c) x) ≡ option_map (λ c. c.kind) x
 past_by true c x e = absurd cc
 past_by false c x e = refl
 
-nat_differ : (n m : ℕ) → (n ≡ m → ⊥) → (n == m) ≡ false
+pub nat_differ : (n m : ℕ) → (n ≡ m → ⊥) → (n == m) ≡ false
 nat_differ n m h = elim (n == m) as (λ b. (n == m) ≡ b → b ≡ false) [ true ↦ λ e. absurd (h (eqb-true n m e)) | false ↦ λ e. refl ] refl
 
 -- a class behind a new one has the kind that it had
-kind_behind : (c : Class) (cs : List Class) (n : ℕ) → n ≤ length cs → kind_at (c ∷ cs) n ≡ kind_at cs n
+pub kind_behind : (c : Class) (cs : List Class) (n : ℕ) → n ≤ length cs → kind_at (c ∷ cs) n ≡ kind_at cs n
 kind_behind c cs n few = past_by (n == length (c ∷ cs)) c (numbered cs n) (nat_differ n (length (c ∷ cs)) (λ e. absurd (omega (arith, few, e))))
 
 -- and so does one behind several
@@ -178,7 +178,7 @@ pub count_kept : (cs ds : List Class) (n : ClassNo) → kind_at cs n.0 ≡ kind_
 unfolding version_count
 count_kept cs ds n e = count_by (numbered cs n.0) (numbered ds n.0) e
 
-newest_kept : (cs ds : List Class) (n : ClassNo) → kind_at cs n.0 ≡ kind_at ds n.0 → newest_version cs n ≡ newest_version ds n
+pub newest_kept : (cs ds : List Class) (n : ClassNo) → kind_at cs n.0 ≡ kind_at ds n.0 → newest_version cs n ≡ newest_version ds n
 newest_kept cs ds n e = ap (λ (k : ℕ). (let v : VersionNo = record { class = n; place = k - 1 } in v)) (count_kept cs ds n e)
 
 versions_by : (x y : Option Class) → option_map (λ c. c.kind) x ≡ option_map (λ c. c.kind) y
@@ -192,11 +192,11 @@ versions_by (Some c) (Some d) e = let same : c.kind ≡ d.kind = cc in ap (λ (k
 named_kept : (cs ds : List Class) (m : MethodNo) → kind_at cs m.class.0 ≡ kind_at ds m.class.0 → name_and_type_at cs m ≡ name_and_type_at ds m
 named_kept cs ds m e = ap (λ (vs : List Tree). slice_get (fold names_after [] vs) m.place) (versions_by (numbered cs m.class.0) (numbered ds m.class.0) e)
 
-name_kept : (cs ds : List Class) (m : MethodNo) → kind_at cs m.class.0 ≡ kind_at ds m.class.0 → method_name cs m ≡ method_name ds m
+pub name_kept : (cs ds : List Class) (m : MethodNo) → kind_at cs m.class.0 ≡ kind_at ds m.class.0 → method_name cs m ≡ method_name ds m
 unfolding method_name
 name_kept cs ds m e = ap (λ (x : Option NameAndType). option_and_then (λ x. x.0) x) (named_kept cs ds m e)
 
-desc_kept : (cs ds : List Class) (m : MethodNo) → kind_at cs m.class.0 ≡ kind_at ds m.class.0 → method_desc cs m ≡ method_desc ds m
+pub desc_kept : (cs ds : List Class) (m : MethodNo) → kind_at cs m.class.0 ≡ kind_at ds m.class.0 → method_desc cs m ≡ method_desc ds m
 unfolding method_desc
 desc_kept cs ds m e = ap (λ (x : Option NameAndType). option_and_then (λ x. x.1) x) (named_kept cs ds m e)
 

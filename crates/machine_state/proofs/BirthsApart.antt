@@ -5,7 +5,7 @@ use Rattle.std.specs.Option.{option_map_or}
 use Rattle.ti_ids.specs.declared.number.ThreadNo.{ThreadNo}
 use Rattle.ti_ids.specs.declared.number.ObjNo.{ObjNo}
 use Rattle.thread_frames.specs.declared.frame.StackEntry.TheVariants.{Java, Init}
-use Rattle.machine_state.specs.Jobs.{counted}
+use Rattle.machine_state.specs.Jobs.{at_number}
 use Rattle.machine_state.specs.Core.{Core, MethodFrame, StackFrame, Thread, is_of_classes, most_threads, with_thread}
 use Rattle.machine_state.specs.Acts.{Act, Changes, Notes, Change, SetsTop, Pops, Pushes, PushesInit, SetsState, SetsActivity, MakesThread, going_on, born_at, with_born, new_thread, changed, core_after}
 use Rattle.machine_state.specs.Births.{unborn_frame, unborn_thread, unborn, BirthsApart}
@@ -43,7 +43,7 @@ get_unborn [] k = refl
 get_unborn (t ∷ threads) zero = refl
 get_unborn (t ∷ threads) (suc k) = get_unborn threads k
 
-counted_unborn : (threads : List Thread) (n : ℕ) → counted (threads_unborn threads) n ≡ option_map unborn_thread (counted threads n)
+counted_unborn : (threads : List Thread) (n : ℕ) → at_number (threads_unborn threads) n ≡ option_map unborn_thread (at_number threads n)
 counted_unborn threads zero = refl
 counted_unborn threads (suc k) = get_unborn threads k
 
@@ -65,7 +65,7 @@ put_unborn threads k change so (Some u) is =
 with_unborn : (core : Core) (t : ThreadNo) (change so : Thread → Thread) → IsSo change so → unborn (with_thread change t core) ≡ with_thread so t (unborn core)
 with_unborn core t change so is =
     ap (λ (l : List Thread). (let c : Core = record core { threads = l } in c))
-    (put_unborn core.threads (t.0 - 1) change so (counted core.threads t.0) is
+    (put_unborn core.threads (t.0 - 1) change so (at_number core.threads t.0) is
     ∙ ap (λ (found : Option Thread). put (threads_unborn core.threads) (t.0 - 1) so found) (sym (counted_unborn core.threads t.0)))
 
 -- with other frames

@@ -18,10 +18,10 @@ names_length : (cs : List CoreClass) → length (names_of cs) ≡ length cs
 names_length [] = refl
 names_length (c ∷ cs) = ap (λ (n : ℕ). suc n) (names_length cs)
 
-length_names : (cs ds : List CoreClass) → names_of cs ≡ names_of ds → length cs ≡ length ds
+pub length_names : (cs ds : List CoreClass) → names_of cs ≡ names_of ds → length cs ≡ length ds
 length_names cs ds e = sym (names_length cs) ∙ ap (λ (l : List Name). length l) e ∙ names_length ds
 
-kind_stays : (job : Job) (turns : Turns) (trace : Trace) (classes new after : List CoreClass) (n : ClassNo) → IsThere classes n → names_of after ≡ names_of classes
+pub kind_stays : (job : Job) (turns : Turns) (trace : Trace) (classes new after : List CoreClass) (n : ClassNo) → IsThere classes n → names_of after ≡ names_of classes
     → kind_at (linked job turns trace (new ++ after)) n.0 ≡ kind_at (linked job turns trace classes) n.0
 kind_stays job turns trace classes new after n there e =
     kind_kept job turns trace new after n.0 (omega (arith, there.1, length_names after classes e))

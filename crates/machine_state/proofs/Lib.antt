@@ -5,3 +5,5 @@ pub mod LogLaws
 pub mod SharesStay
 pub mod BirthsApart
 pub mod CallLaws
+pub mod FormedTrees
+pub mod QuietRecords

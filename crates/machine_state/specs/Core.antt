@@ -23,7 +23,7 @@ use Rattle.ti_ids.specs.declared.state.Activity.{Activity}
 use Rattle.ti_ids.specs.declared.state.InitState.{InitState}
 use Rattle.link_versions.specs.Classes.{numbered, with_numbered}
 use Rattle.agent_types.specs.declared.call.Call.{Call}
-use Rattle.machine_state.specs.Jobs.{counted}
+use Rattle.machine_state.specs.Jobs.{at_number}
 
 -- ---- frames
 
@@ -110,7 +110,7 @@ pub record Core : Type 0 where
 -- ---- its parts by number, and the core with another part in its place
 
 abbrev pub thread_at : Core → ThreadNo → Option Thread
-thread_at core t = counted core.threads t.0
+thread_at core t = at_number core.threads t.0
 
 abbrev pub with_thread : (Thread → Thread) → ThreadNo → Core → Core
 with_thread change t core = record core {
@@ -177,7 +177,7 @@ with_queue change actor core = record core { queues = queues_with change actor c
 
 -- how many calls of its script an agent has made
 abbrev pub script_place : Core → EnvNo → ℕ
-script_place core env = unwrap_or (counted core.scripts env.0) 0
+script_place core env = unwrap_or (at_number core.scripts env.0) 0
 
 -- ---- threads
 

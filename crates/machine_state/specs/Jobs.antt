@@ -28,9 +28,9 @@ abbrev pub bytes_of : Job → Name → Option (List ℕ)
 bytes_of job name = option_map (λ f. f.bytes) (find (λ f. bytes_eq f.name name) job.files)
 
 -- what has a number, counted from 1
-abbrev pub counted : {A : Type 0} → List A → ℕ → Option A
-counted list zero = None
-counted list (suc place) = slice_get list place
+abbrev pub at_number : {A : Type 0} → List A → ℕ → Option A
+at_number list zero = None
+at_number list (suc place) = slice_get list place
 
 abbrev pub agent_at : Job → EnvNo → Option Agent
-agent_at job env = counted job.agents env.0
+agent_at job env = at_number job.agents env.0

@@ -16,3 +16,4 @@ pub mod Births
 pub mod Obsolete
 pub mod Statuses
 pub mod Laws
+pub mod Bytes

@@ -12,11 +12,11 @@ use Rattle.machine_state.specs.Trace.{MethodName, Place, FieldName, Record, Trac
 use Rattle.machine_state.specs.Trace.{Loaded, Redefined, Retransformed, BreakSet, BreakCleared, WatchSet, SuspendSet}
 use Rattle.machine_state.specs.Environments.{changes_in}
 
-abbrev pub same_method : MethodName → MethodName → Bool
-same_method a b = bytes_eq a.class b.class && bytes_eq a.name b.name && bytes_eq a.desc b.desc
+abbrev pub is_method : MethodName → MethodName → Bool
+is_method a b = bytes_eq a.class b.class && bytes_eq a.name b.name && bytes_eq a.desc b.desc
 
 abbrev pub same_place : Place → Place → Bool
-same_place a b = same_method a.method b.method && a.pc == b.pc
+same_place a b = is_method a.method b.method && a.pc == b.pc
 
 abbrev pub is_in_class : Name → Place → Bool
 is_in_class class place = bytes_eq class place.method.class

@@ -11,7 +11,7 @@ use Rattle.ti_ids.specs.declared.number.ClassNo.{ClassNo}
 use Rattle.ti_ids.specs.declared.number.ObjNo.{ObjNo}
 use Rattle.ti_ids.specs.declared.actor.Actor.{Actor}
 use Rattle.thread_frames.specs.declared.frame.StackEntry.TheVariants.{Java, Init}
-use Rattle.machine_state.specs.Jobs.{Job, counted}
+use Rattle.machine_state.specs.Jobs.{Job, at_number}
 use Rattle.machine_state.specs.Core.{Core, CoreClass, MethodFrame, StackFrame, Thread, has_class, is_of_classes, most_threads, with_thread}
 use Rattle.machine_state.specs.Trace.{Trace}
 use Rattle.link_versions.specs.Classes.{with_numbered}
@@ -23,22 +23,22 @@ use Rattle.machine_steps.specs.Laws.{WasBorn, AreBorn, FramesAreBorn}
 
 -- ---- what holds of a frame: its birth is at most this, and of so many classes there are its own
 
-record IsOldFrame (n c : ℕ) (f : MethodFrame) : Type 0 where
-  birth : f.pin.birth ≤ n
-  class : (0 < f.class.0) × (f.class.0 ≤ c)
-  method : (0 < f.method.class.0) × (f.method.class.0 ≤ c)
+pub record IsOldFrame (n c : ℕ) (f : MethodFrame) : Type 0 where
+  pub birth : f.pin.birth ≤ n
+  pub class : (0 < f.class.0) × (f.class.0 ≤ c)
+  pub method : (0 < f.method.class.0) × (f.method.class.0 ≤ c)
 
-abbrev IsOld : ℕ → ℕ → StackFrame → Type 0
+abbrev pub IsOld : ℕ → ℕ → StackFrame → Type 0
 IsOld n c (Java f) = IsOldFrame n c f
 IsOld n c (Init class) = Unit {0}
 
-abbrev OldFrames : ℕ → ℕ → List StackFrame → Type 0
+abbrev pub OldFrames : ℕ → ℕ → List StackFrame → Type 0
 OldFrames n c frames = AllByRecursion (IsOld n c) frames
 
-abbrev OldThread : ℕ → ℕ → Thread → Type 0
+abbrev pub OldThread : ℕ → ℕ → Thread → Type 0
 OldThread n c t = OldFrames n c t.frames
 
-abbrev AreOld : ℕ → ℕ → List Thread → Type 0
+abbrev pub AreOld : ℕ → ℕ → List Thread → Type 0
 AreOld n c threads = AllByRecursion (OldThread n c) threads
 
 -- ---- frames of one thread
@@ -109,7 +109,7 @@ with_old : (n c : ℕ) (core : Core) (t : ThreadNo) (change : Thread → Thread)
     → AreOld n c (with_thread change t core).threads
 with_old n c core t change keep h = by t.0
   where
-    by : (k : ℕ) → AreOld n c (option_map_or (λ thread. slice_set core.threads (k - 1) (change thread)) (counted core.threads k) core.threads)
+    by : (k : ℕ) → AreOld n c (option_map_or (λ thread. slice_set core.threads (k - 1) (change thread)) (at_number core.threads k) core.threads)
     by zero = h
     by (suc k) =
         subst (λ (p : ℕ). AreOld n c (option_map_or (λ thread. slice_set core.threads p (change thread)) (slice_get core.threads k) core.threads))
@@ -126,7 +126,7 @@ made_old n c object threads false h = append_old n c threads (new_thread object)
 
 -- ---- one change, with births up to this
 
-abbrev IsOldCore : ℕ → Core → Type 0
+abbrev pub IsOldCore : ℕ → Core → Type 0
 IsOldCore n core = AreOld n (length core.classes) core.threads
 
 numbered_length : (change : CoreClass → CoreClass) (classes : List CoreClass) (k : ℕ) → length (with_numbered change classes k) ≡ length classes
@@ -189,7 +189,7 @@ acts_old job actor birth s (a ∷ acts) h = acts_old job actor birth (acted job 
 
 -- ---- the trace has the length of the birth when the step has ended
 
-grown_length : (job : Job) (actor : Actor) (birth : ℕ) (s : State) (acts : List Act)
+pub grown_length : (job : Job) (actor : Actor) (birth : ℕ) (s : State) (acts : List Act)
     → length (fold (acted job actor birth) s acts).trace ≡ length s.trace + length (filter is_note acts)
 grown_length job actor birth s [] = omega arith
 grown_length job actor birth s (Changes c ∷ acts) = grown_length job actor birth (acted job actor birth s (Changes c)) acts
@@ -200,10 +200,10 @@ grown_length job actor birth s (Notes what ∷ acts) =
 
 -- ---- steps and schedules
 
-abbrev IsBornIn : State → Type 0
+abbrev pub IsBornIn : State → Type 0
 IsBornIn s = IsOldCore (length s.trace) s.core
 
-step_old : (w : World) (s : State) (actor : Actor) (next : Option (List Act)) → IsBornIn s → IsBornIn (step_by w s actor next)
+pub step_old : (w : World) (s : State) (actor : Actor) (next : Option (List Act)) → IsBornIn s → IsBornIn (step_by w s actor next)
 step_old w s actor None h = h
 step_old w s actor (Some acts) h =
     let birth = birth_after s.trace acts in
@@ -224,7 +224,7 @@ frames_born trace classes (Java f ∷ below) h =
     (record { birth = h.0.birth; class = h.0.class; method = h.0.method }, frames_born trace classes below h.1)
 frames_born trace classes (Init class ∷ below) h = (tt, frames_born trace classes below h.1)
 
-threads_born : (trace : Trace) (classes : List CoreClass) (threads : List Thread) → AreOld (length trace) (length classes) threads
+pub threads_born : (trace : Trace) (classes : List CoreClass) (threads : List Thread) → AreOld (length trace) (length classes) threads
     → AreBorn trace classes threads
 threads_born trace classes [] h = tt
 threads_born trace classes (t ∷ threads) h = (frames_born trace classes t.frames h.0, threads_born trace classes threads h.1)

@@ -1,5 +1,5 @@
 -- What is accepted is within its bounds.
-use Rattle.std.proofs.Common.{◌≡◌, ◌∙◌, ◌≤◌, ◌+◌, ℕ, zero, suc, Bool, true, false, ◌&&◌, cond, List, [], ◌∷◌, ◌++◌, length, length-append, length-take, length-drop, drop, Option, Some, None, ltb-false, refl, sym, ap, subst, arith}
+use Rattle.std.proofs.Common.{◌≡◌, ◌∙◌, ◌≤◌, ◌+◌, ◌==◌, ℕ, zero, suc, Bool, true, false, ◌&&◌, cond, List, [], ◌∷◌, ◌++◌, length, length-append, length-take, length-drop, drop, Option, Some, None, ltb-false, refl, sym, ap, subst, arith}
 use Rattle.jv_names.proofs.DescriptorPlaces.{and-left, and-right}
 use Rattle.std.specs.Prelude.{slice_get, unwrap_or, nat_le, nat_lt, codes, Result, Ok, Err, if◌then◌else◌}
 use Rattle.std.specs.List.{list_all}
@@ -43,6 +43,18 @@ number_lies least most otherwise (value ∷ others) ok e =
     let all : list_all (is_in least most) found ≡ true = and-right (nat_le (length found) 1) (list_all (is_in least most) found) e in
     value_lies least most otherwise (number value) (and-left (is_in least most value) (list_all (is_in least most) others) all)
 
+-- an option that must stand does so once, with a number that lies so
+abbrev stands_just_once : ℕ → ℕ → List Word → Bool
+stands_just_once least most found = length found == 1 && list_all (is_in least most) found
+
+given_lies : (least most otherwise : ℕ) (found : List Word) → stands_just_once least most found ≡ true
+    → lies least most (unwrap_or (option_and_then number (slice_get found 0)) otherwise) ≡ true
+given_lies least most otherwise [] e = absurd cc
+given_lies least most otherwise (value ∷ others) e =
+    let found : List Word = value ∷ others in
+    let all : list_all (is_in least most) found ≡ true = and-right (length found == 1) (list_all (is_in least most) found) e in
+    value_lies least most otherwise (number value) (and-left (is_in least most value) (list_all (is_in least most) others) all)
+
 -- the limits that are given, but for the slice
 record AreBounded (limits : Limits) : Type 0 where
   steps : allows (codes "--steps") limits.steps ≡ true
@@ -54,7 +66,7 @@ abbrev IsBoundedRequest : Request → Type 0
 IsBoundedRequest (RunRequest given workers) =
     AreBounded given.limits × (allows (codes "--slice") given.limits.slice ≡ true) × (allows (codes "--workers") workers ≡ true)
 IsBoundedRequest (ReplayRequest given name) = AreBounded given.limits
-IsBoundedRequest (MakeRequest number size) = Unit {0}
+IsBoundedRequest (MakeRequest number size) = (allows (codes "--number") number ≡ true) × (allows (codes "--size") size ≡ true)
 
 -- what holds of all choices holds of those behind the first ones
 behind : (met : Choice → Bool) (n : ℕ) (all : List Choice) → list_all met all ≡ true → list_all met (drop n all) ≡ true
@@ -103,10 +115,20 @@ module _ (pairs : List Pair) where
             (and-left (stands_once 64 16000000 (found (codes "--heap"))) (list_all met (drop 11 choices)) (met_from ReplayCommand 10 ok));
       }
 
+  make_bounded : are_accepted MakeCommand pairs ≡ true → IsBoundedRequest (asked_by MakeCommand pairs)
+  make_bounded ok =
+      let met : Choice → Bool = is_met MakeCommand pairs in
+      let found : Word → List Word = λ name. values name pairs in (
+        given_lies 0 999999999 0 (found (codes "--number"))
+            (and-left (stands_just_once 0 999999999 (found (codes "--number"))) (list_all met (drop 12 choices)) (met_from MakeCommand 11 ok)),
+        given_lies 1 10000 0 (found (codes "--size"))
+            (and-left (stands_just_once 1 10000 (found (codes "--size"))) (list_all met (drop 13 choices)) (met_from MakeCommand 12 ok)),
+      )
+
   asked_bounded : (command : Command) → are_accepted command pairs ≡ true → IsBoundedRequest (asked_by command pairs)
   asked_bounded RunCommand ok = run_bounded ok
   asked_bounded ReplayCommand ok = replay_bounded ok
-  asked_bounded MakeCommand ok = tt
+  asked_bounded MakeCommand ok = make_bounded ok
 
   if_accepted : (command : Command) (ok : Bool) (request : Request) → are_accepted command pairs ≡ ok
       → (if ok then Some (asked_by command pairs) else None) ≡ Some request → IsBoundedRequest request
@@ -294,7 +316,8 @@ module _ (read_agent : AgentReading) where
       let bounded = job_bounded given b.value d.value limits (counted_few given a.value a.is) long d.is in
       let whole : ReplayTask d.value f.value ≡ task = cc in
       subst (λ (x : Task). IsBoundedTask x) whole bounded
-  task_bounded files (MakeRequest number size) task limits e = let whole : MakeTask number size ≡ task = cc in subst (λ (x : Task). IsBoundedTask x) whole tt
+  task_bounded files (MakeRequest number size) task limits e =
+      let whole : MakeTask number size ≡ task = cc in subst (λ (x : Task). IsBoundedTask x) whole limits
 
   if_request : (files : Files) (request : Option Request) (task : Task) → ((r : Request) → request ≡ Some r → IsBoundedRequest r)
       → (elim request as (λ _. Admitted Task) [ None ↦ Err Usage | Some r ↦ task_of read_agent files r ]) ≡ Ok task → IsBoundedTask task

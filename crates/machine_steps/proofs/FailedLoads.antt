@@ -97,7 +97,7 @@ act_failed : (job : Job) (actor : Actor) (birth : ℕ) (s : State) (a : Act) (na
 act_failed job actor birth s (Changes c) name error h = change_failed birth c s.core name error h
 act_failed job actor birth s (Notes what) name error h = record { absent = h.absent; failed = h.failed; plain = h.plain }
 
-acts_failed : (job : Job) (actor : Actor) (birth : ℕ) (s : State) (acts : List Act) (name error : Name) → IsFailed s.core name error
+pub acts_failed : (job : Job) (actor : Actor) (birth : ℕ) (s : State) (acts : List Act) (name error : Name) → IsFailed s.core name error
     → IsFailed (fold (acted job actor birth) s acts).core name error
 acts_failed job actor birth s [] name error h = h
 acts_failed job actor birth s (a ∷ acts) name error h =

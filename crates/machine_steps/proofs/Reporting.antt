@@ -1,24 +1,24 @@
 -- What is written is a report by the headline, and a replay writes it again.
-use Rattle.std.proofs.Common.{◌≡◌, ◌∙◌, ℕ, ◌+◌, ◌==◌, Bool, true, false, List, [], ◌∷◌, Option, Some, None, refl, sym, ap, subst}
+use Rattle.std.proofs.Common.{◌≡◌, ◌∙◌, ℕ, ◌==◌, Bool, true, false, List, Option, Some, None, refl, sym, ap, subst}
 use Rattle.std.specs.Prelude.{Ok, Err, option_map, if◌then◌else◌}
 use Rattle.ti_ids.specs.declared.actor.Actor.{Actor}
 use Rattle.ti_ids.specs.declared.actor.End.{End}
 use Rattle.report_text.specs.Stated.{stated}
 use Rattle.machine_state.specs.Jobs.{Job}
-use Rattle.machine_state.specs.Acts.{State}
 use Rattle.machine_steps.specs.World.{World, Meaning, unsliced, world_in, world_of}
-use Rattle.machine_steps.specs.Ends.{end, is_enabled}
-use Rattle.machine_steps.specs.Replay.{step, opening, state, CanRun, CanRunFrom}
+use Rattle.machine_steps.specs.Ends.{end}
+use Rattle.machine_steps.specs.Replay.{opening, state, CanRun}
 use Rattle.machine_steps.specs.Picks.{picked}
 use Rattle.job_words.specs.declared.refusal.Refusal.{Refusal}
 use Rattle.job_words.specs.declared.refusal.Refusal.TheVariants.{BadEntry}
 use Rattle.job_words.specs.Fetches.{Admitted}
 use Rattle.machine_steps.specs.Results.{Task, RunTask, ReplayTask, MakeTask, result_of}
 use Rattle.machine_steps.specs.Bounds.{IsBounded, IsBoundedTask}
-use Rattle.machine_steps.specs.Written.{barred_from, replay_refusal, Written, refused, reported_by, reported, replayed_by, replayed, IsReported, IsWrittenBy, written_by}
+use Rattle.machine_steps.specs.Written.{replay_refusal, Written, refused, reported_by, reported, replayed_by, replayed, IsReported, IsWrittenBy, written_by}
 use Rattle.machine_steps.specs.ReportLaws.{PickedIsReported, WrittenIsWritten, ReplaysSame}
 use Rattle.machine_steps.proofs.Ending.{picked_can_run, picked_ends}
 use Rattle.machine_steps.proofs.Statable.{states_schedule}
+use Rattle.machine_steps.proofs.Barring.{unbarred_from}
 use Rattle.machine_steps.proofs.Bounded.{tasks_are_bounded}
 
 same_some : {A : Type 0} (x y : A) → Some x ≡ Some y → x ≡ y
@@ -78,17 +78,6 @@ written_is_written meaning words files it e =
     by_answer meaning (result_of meaning.read_agent words files) it (tasks_are_bounded meaning.read_agent words files) e
 
 -- ---- replays
-
-taken_so : {A : Type 0} (b : Bool) (x y : A) → b ≡ true → (if b then x else y) ≡ x
-taken_so true x y e = refl
-taken_so false x y e = absurd cc
-
--- a schedule that can be run isn't barred
-unbarred_from : (w : World) (s : State) (n : ℕ) (schedule : List Actor) → CanRunFrom w s schedule → barred_from w s n schedule ≡ None
-unbarred_from w s n [] can = refl
-unbarred_from w s n (actor ∷ actors) can =
-    taken_so (is_enabled w s actor) (barred_from w (step w s actor) (n + 1) actors) (Some n) can.0
-    ∙ unbarred_from w (step w s actor) (n + 1) actors can.1
 
 unrefused : (w : World) (schedule : List Actor) → CanRun w schedule → replay_refusal w schedule ≡ None
 unrefused w schedule can = ap (λ (n : Option ℕ). option_map BadEntry n) (unbarred_from w (opening w.job) 0 schedule can)

@@ -8,7 +8,7 @@ use Rattle.ti_ids.specs.declared.actor.Actor.{Actor}
 use Rattle.ti_ids.specs.declared.actor.Actor.TheVariants.{Vm, Thread, Agent}
 use Rattle.report_text.specs.Named.{IsNumber, IsNamed, AllNamed}
 use Rattle.report_text.proofs.Stating.{stated-report_text}
-use Rattle.machine_state.specs.Jobs.{Job, counted, agent_at}
+use Rattle.machine_state.specs.Jobs.{Job, at_number, agent_at}
 use Rattle.machine_state.specs.Core.{most_threads, thread_at}
 use Rattle.machine_state.specs.Acts.{State}
 use Rattle.machine_steps.specs.World.{World}
@@ -38,7 +38,7 @@ is_within [] k e = absurd cc
 is_within (x ∷ xs) zero e = omega arith
 is_within (x ∷ xs) (suc k) e = let more = is_within xs k e in omega (arith, more)
 
-is_number : {A : Type 0} (xs : List A) (n most : ℕ) → length xs ≤ most → most < 10 ^ 9 → is_some (counted xs n) ≡ true → IsNumber n
+is_number : {A : Type 0} (xs : List A) (n most : ℕ) → length xs ≤ most → most < 10 ^ 9 → is_some (at_number xs n) ≡ true → IsNumber n
 is_number xs zero most few small e = absurd cc
 is_number xs (suc k) most few small e = let more = is_within xs k e in (omega arith, omega (arith, few, small, more))
 

@@ -6,7 +6,7 @@ use Rattle.std.specs.Option.{option_map_or}
 use Rattle.ti_ids.specs.declared.actor.Actor.{Actor}
 use Rattle.jv_names.specs.Names.{Name}
 use Rattle.machine_state.specs.Core.{CoreClass, MethodFrame, StackFrame, Thread, frames_at}
-use Rattle.machine_state.specs.Jobs.{counted}
+use Rattle.machine_state.specs.Jobs.{at_number}
 use Rattle.thread_frames.specs.declared.frame.StackEntry.TheVariants.{Java}
 use Rattle.machine_state.specs.FrameCode.{code}
 use Rattle.machine_state.specs.Laws.{names_of, IsBorn}
@@ -20,20 +20,20 @@ use Rattle.machine_steps.proofs.Stepping.{adds_records, classes_stay}
 use Rattle.machine_steps.proofs.Births.{frames_are_born}
 
 -- classes whose names are these and those are some of the ones, and some of the others
-record Split (new old : List Name) (classes : List CoreClass) : Type 0 where
-  first : List CoreClass
-  rest : List CoreClass
-  whole : classes ≡ first ++ rest
-  named : names_of rest ≡ old
+pub record Split (new old : List Name) (classes : List CoreClass) : Type 0 where
+  pub first : List CoreClass
+  pub rest : List CoreClass
+  pub whole : classes ≡ first ++ rest
+  pub named : names_of rest ≡ old
 
-split : (new old : List Name) (classes : List CoreClass) → names_of classes ≡ new ++ old → Split new old classes
+pub split : (new old : List Name) (classes : List CoreClass) → names_of classes ≡ new ++ old → Split new old classes
 split [] old classes e = record { first = []; rest = classes; whole = refl; named = e }
 split (n ∷ new) old [] e = absurd cc
 split (n ∷ new) old (c ∷ classes) e =
     let more = split new old classes (let rest : names_of classes ≡ new ++ old = cc in rest) in
     record { first = c ∷ more.first; rest = more.rest; whole = ap (λ (l : List CoreClass). c ∷ l) more.whole; named = more.named }
 
-born_stays : (w : World) (s : State) (actor : Actor) (f : MethodFrame) → IsBorn s.trace s.core.classes f
+pub born_stays : (w : World) (s : State) (actor : Actor) (f : MethodFrame) → IsBorn s.trace s.core.classes f
     → code w.job w.turns (step w s actor).trace (step w s actor).core.classes f ≡ code w.job w.turns s.trace s.core.classes f
 born_stays w s actor f born =
     let grown = adds_records w s actor in let named = classes_stay w s actor in
@@ -57,7 +57,7 @@ thread_born trace classes (t ∷ threads) zero h = h.0
 thread_born trace classes (t ∷ threads) (suc place) h = thread_born trace classes threads place h.1
 
 number_born : (trace : Trace) (classes : List CoreClass) (threads : List Thread) (number : ℕ) → AreBorn trace classes threads
-    → AllByRecursion (WasBorn trace classes) (option_map_or (λ t. t.frames) (counted threads number) [])
+    → AllByRecursion (WasBorn trace classes) (option_map_or (λ t. t.frames) (at_number threads number) [])
 number_born trace classes threads zero h = tt
 number_born trace classes threads (suc place) h = thread_born trace classes threads place h
 

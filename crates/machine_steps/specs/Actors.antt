@@ -19,7 +19,7 @@ use Rattle.java_heap.specs.declared.object.Content.TheVariants.{Fields}
 use Rattle.ti_ids.specs.declared.state.InitState.TheVariants as states
 use Rattle.agent_types.specs.declared.agent.Agent as agent_type
 use Rattle.agent_types.specs.declared.agent.ScriptCall.{ScriptCall}
-use Rattle.machine_state.specs.Jobs.{agent_at, counted}
+use Rattle.machine_state.specs.Jobs.{agent_at, at_number}
 use Rattle.machine_state.specs.Core.{Core, has_ended, script_place}
 use Rattle.machine_state.specs.Trace.{Started, Inited, Died, VMStart, VMInit, VMDeath}
 use Rattle.machine_state.specs.Environments.{is_disposed}
@@ -33,7 +33,7 @@ use Rattle.machine_steps.specs.Threads.{thread_acts}
 
 -- ---- the machine's own steps
 
--- the number of a base class: its place in the base set, counted from 1
+-- the number of a base class: its place in the base set, at_number from 1
 abbrev pub base_class : Name → ClassNo
 base_class name = record { 0 = option_map_or (λ place. place + 1) (position (has_name name) base_set) 0 }
 
@@ -89,7 +89,7 @@ abbrev pub when_logged : World → State → EnvNo → ScriptCall → Option Nex
 when_logged w s env c = if nat_le c.at (length (log w.job s.trace env)) then Some (scripted env c.call) else None
 
 abbrev pub script_call : World → State → EnvNo → agent_type.Agent → Option NextCall
-script_call w s env agent = counted agent.script (script_place s.core env + 1) >>= when_logged w s env
+script_call w s env agent = at_number agent.script (script_place s.core env + 1) >>= when_logged w s env
 
 -- one that waits comes first
 abbrev pub agent_call : World → State → EnvNo → agent_type.Agent → Option NextCall

@@ -28,11 +28,11 @@ pub record IsBounded (job : Job) : Type 0 where
   pub donors : length job.donors ≤ most Donors
   pub agents : length job.agents ≤ most Agents
 
--- of what `make` is asked for nothing is said here
+-- the number and the size of `make` too
 abbrev pub IsBoundedTask : Task → Type 0
 IsBoundedTask (RunTask job workers) = IsBounded job × (allows (codes "--slice") job.limits.slice ≡ true) × (allows (codes "--workers") workers ≡ true)
 IsBoundedTask (ReplayTask job schedule) = IsBounded job
-IsBoundedTask (MakeTask number size) = Unit {0}
+IsBoundedTask (MakeTask number size) = (allows (codes "--number") number ≡ true) × (allows (codes "--size") size ≡ true)
 
 -- What is accepted is within its bounds.
 abbrev pub TasksAreBounded : Type 0

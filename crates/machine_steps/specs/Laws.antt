@@ -1,27 +1,31 @@
 -- The laws of the steps: what holds of every world, state and schedule.
-use Rattle.std.specs.Prelude.{◌≡◌, ◌↔◌, ℕ, ◌+◌, ◌<◌, ◌≤◌, ◌^◌, List, ◌∷◌, ◌++◌, length, map, slice_get, Option, Some, None, true, false, bytes_eq}
+use Rattle.std.specs.Prelude.{◌≡◌, ◌↔◌, ℕ, ◌+◌, ◌<◌, ◌≤◌, ◌^◌, List, ◌∷◌, ◌++◌, length, map, slice_get, Option, Some, None, Bool, true, false, bytes_eq, codes}
 use Rattle.std.specs.List.{AllByRecursion, IsDistinct, list_any}
 use Rattle.ti_ids.specs.declared.number.ThreadNo.{ThreadNo}
 use Rattle.ti_ids.specs.declared.number.ClassNo.{ClassNo}
 use Rattle.ti_ids.specs.declared.actor.Actor.{Actor}
+use Rattle.ti_ids.specs.declared.actor.Actor.TheVariants as actors
 use Rattle.ti_ids.specs.declared.actor.End.{End}
 use Rattle.jv_names.specs.Names.{Name}
 use Rattle.link_versions.specs.Classes.{Class, number_of}
 use Rattle.report_text.specs.Named.{AllNamed}
 use Rattle.report_text.specs.Stated.{stated}
 use Rattle.machine_state.specs.Core.{Core, CoreClass, MethodFrame, StackFrame, Thread, failure_of, frames_at, most_threads}
-use Rattle.machine_state.specs.Linked.{array_type}
+use Rattle.machine_state.specs.Linked.{array_type, tree_of}
 use Rattle.thread_frames.specs.declared.frame.StackEntry.TheVariants.{Java, Init}
 use Rattle.machine_state.specs.FrameCode.{code}
 use Rattle.machine_state.specs.Laws.{IsBorn}
 use Rattle.machine_state.specs.Trace.{Entry, Trace}
-use Rattle.machine_state.specs.Acts.{State}
+use Rattle.machine_state.specs.Chains.{rules_do, chain}
+use Rattle.transform_chain.specs.Turns.{fold_from}
+use Rattle.machine_state.specs.Acts.{State, Act, Changes, TakesCall, TakesScript}
 use Rattle.machine_steps.specs.World.{World}
-use Rattle.machine_steps.specs.Loading.{next_load, Loads}
+use Rattle.machine_steps.specs.Sites.{classes_now}
+use Rattle.machine_steps.specs.Loading.{next_load, Load, Loads, Refuses, bytes_given, is_accepted, load_step}
 use Rattle.machine_steps.specs.Ends.{end, is_enabled, IsEnabled}
 use Rattle.machine_steps.specs.Calls.{NextCall, performs}
 use Rattle.machine_steps.specs.Actors.{next_call, next_acts, is_ready}
-use Rattle.machine_steps.specs.Replay.{step, run_from, state, CanRun}
+use Rattle.machine_steps.specs.Replay.{step, step_by, run_from, state, CanRun}
 use Rattle.machine_steps.specs.Picks.{picked}
 use Rattle.machine_steps.specs.Reports.{report}
 use Rattle.machine_steps.specs.Bounds.{IsBounded}
@@ -64,6 +68,18 @@ AddsRecords = (w : World) (s : State) (actor : Actor) → GrowsBy s actor (step 
 abbrev pub PerformsNextCall : Type 0
 PerformsNextCall =
     (w : World) (s : State) (actor : Actor) (c : NextCall) → next_call w s actor ≡ Some c → next_acts w s actor ≡ Some (performs w s actor c)
+
+-- an act takes a call from the queue of an actor, or from a script
+abbrev pub takes_call : Act → Bool
+takes_call (Changes (TakesCall actor)) = true
+takes_call (Changes (TakesScript env)) = true
+takes_call _ = false
+
+-- Where an actor has no next call, its next step takes none.
+abbrev pub TakesNoOtherCall : Type 0
+TakesNoOtherCall =
+    (w : World) (s : State) (actor : Actor) (acts : List Act) → next_call w s actor ≡ None → next_acts w s actor ≡ Some acts
+    → list_any takes_call acts ≡ false
 
 -- ---- what only grows
 
@@ -108,6 +124,27 @@ abbrev pub StaysFailed : Type 0
 StaysFailed =
     (w : World) (s : State) (schedule : List Actor) (name error : Name) → IsFailed s.core name error
     → IsFailed (run_from w s schedule).core name error
+
+-- The load of a class comes next where a step needs a class of this name. The step began with the classes that are still there, and it knows
+-- them as they were linked then. An array class has no load.
+pub record NeedsNow (w : World) (began s : State) (wanted : Name) (load : Load) (name : Name) : Type 0 where
+  pub same : s.core.classes ≡ began.core.classes
+  pub next : next_load w s.core (classes_now w began) wanted ≡ load
+  pub plain : array_type name ≡ None
+
+-- what all active transformers make of its file's bytes isn't accepted
+abbrev pub IsUnaccepted : World → State → ThreadNo → Name → Type 0
+IsUnaccepted w s t name =
+    let bytes = bytes_given w.job name in
+    is_accepted name (tree_of bytes) (tree_of (fold_from name 1 (chain w.job (rules_do w.turns) s.trace (actors.Thread t)) bytes).made) ≡ false
+
+-- A load that is refused, and one whose class isn't accepted, has failed, with that class of error.
+pub record FailsLoads : Type 0 where
+  pub refused : (w : World) (began s : State) (t : ThreadNo) (wanted name error : Name) → NeedsNow w began s wanted (Refuses name error) name
+      → IsFailed (step_by w s (actors.Thread t) (load_step w s (classes_now w began) t (Refuses name error))).core name error
+  pub unaccepted : (w : World) (began s : State) (t : ThreadNo) (wanted name : Name) → NeedsNow w began s wanted (Loads name) name
+      → IsUnaccepted w s t name
+      → IsFailed (step_by w s (actors.Thread t) (load_step w s (classes_now w began) t (Loads name))).core name (codes "java/lang/ClassFormatError")
 
 -- After every schedule no two classes have the same name: none was loaded twice.
 abbrev pub NamesDiffer : Type 0

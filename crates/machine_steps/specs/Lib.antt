@@ -23,3 +23,4 @@ pub mod StandsFor
 pub mod Written
 pub mod ReportLaws
 pub mod CheckLaws
+pub mod Reachable

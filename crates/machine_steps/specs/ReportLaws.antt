@@ -1,15 +1,22 @@
--- What follows of the definitions of what is written: that it is a report by the headline, and that a replay writes it again.
-use Rattle.std.specs.Prelude.{◌≡◌, ℕ, List, Some, Result}
+-- What follows of the definitions of what is written: that a schedule is refused where it can't be run, that a run's
+-- report is one by the headline, and that a replay writes it again.
+use Rattle.std.specs.Prelude.{◌≡◌, ◌↔◌, ℕ, List, Some, None, Result}
 use Rattle.ti_ids.specs.declared.actor.Actor.{Actor}
 use Rattle.report_text.specs.Stated.{stated}
 use Rattle.machine_state.specs.Jobs.{Job}
 use Rattle.machine_steps.specs.World.{World, Meaning, unsliced, world_of}
+use Rattle.machine_steps.specs.Replay.{CanRun}
 use Rattle.machine_steps.specs.Picks.{picked}
 use Rattle.job_words.specs.Options.{Word}
 use Rattle.job_words.specs.Fetches.{Files}
 use Rattle.machine_steps.specs.Results.{ReplayTask}
 use Rattle.machine_steps.specs.Bounds.{IsBounded}
-use Rattle.machine_steps.specs.Written.{Written, reported, IsReported, IsWritten, written_of, written}
+use Rattle.machine_steps.specs.Written.{barred_at, IsBarred, Written, reported, IsReported, IsWritten, written_of, written}
+
+-- A schedule is refused with the place of its first entry that can't be performed, and isn't refused exactly where it can be run.
+pub record BarredExactly : Type 0 where
+  pub there : (w : World) (schedule : List Actor) (n : ℕ) → barred_at w schedule ≡ Some n ↔ IsBarred w schedule n
+  pub nowhere : (w : World) (schedule : List Actor) → barred_at w schedule ≡ None ↔ CanRun w schedule
 
 -- The report of the schedule that one worker picks is one by the headline, for every job within its bounds.
 abbrev pub PickedIsReported : Type 0

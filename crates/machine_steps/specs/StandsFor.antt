@@ -21,7 +21,7 @@ use Rattle.ti_ids.specs.Maybe.{◌>>=◌}
 use Rattle.report_text.specs.Runs.{runs_of}
 use Rattle.capability_set.specs.Held.{has_capability}
 use Rattle.event_mask.specs.Settings.{Scope}
-use Rattle.machine_state.specs.Jobs.{counted}
+use Rattle.machine_state.specs.Jobs.{at_number}
 use Rattle.machine_state.specs.Core as cores
 use Rattle.machine_state.specs.Core.{Core, MethodFrame, StackFrame, failure_of, queue_of, frames_at, monitor_at}
 use Rattle.monitor_table.specs.Table.{state_of}
@@ -139,7 +139,7 @@ pub record StandsFor (w : World) (s : State) (p : Parts) : Type 0 where
   pub queues : (actor : Actor) → p.queues actor ≡ queue_of s.core actor
   pub scripts : p.scripts ≡ s.core.scripts
   pub environment_count : length p.environments ≡ length w.job.agents
-  pub environments : (env : EnvNo) (e : EnvironmentParts) → counted p.environments env.0 ≡ Some e → EnvironmentStands w s.trace s.core env e
+  pub environments : (env : EnvNo) (e : EnvironmentParts) → at_number p.environments env.0 ≡ Some e → EnvironmentStands w s.trace s.core env e
   pub transformers : p.transformers ≡ added s.trace
   pub breakpoints : (l : Location) → p.breakpoints l ≡ has_breakpoint s.trace (place_named p.java.classes l)
   pub watches : (field : FieldNo) (kind : EventKind) → p.watches field kind ≡ is_watched s.trace (name_of_field p.java.classes field) kind

@@ -1,5 +1,5 @@
 -- What a call of the program writes, and the status that it ends with, where memory is granted and no device fails.
-use Rattle.std.specs.Prelude.{◌≡◌, ℕ, ◌+◌, ◌==◌, List, [], ◌∷◌, Option, Some, None, option_map, Result, Ok, Err, if◌then◌else◌}
+use Rattle.std.specs.Prelude.{◌≡◌, ℕ, ◌+◌, ◌==◌, false, List, [], ◌∷◌, ◌++◌, length, Option, Some, None, option_map, Result, Ok, Err, if◌then◌else◌}
 use Rattle.ti_ids.specs.declared.actor.Actor.{Actor}
 use Rattle.ti_ids.specs.declared.actor.End.{End}
 use Rattle.ti_ids.specs.declared.actor.End.TheVariants as ends
@@ -16,7 +16,7 @@ use Rattle.job_words.specs.Fetches.{Admitted, Files}
 use Rattle.machine_state.specs.Acts.{State}
 use Rattle.machine_steps.specs.World.{World, Meaning, world_of}
 use Rattle.machine_steps.specs.Ends.{end, is_enabled}
-use Rattle.machine_steps.specs.Replay.{step, state, opening}
+use Rattle.machine_steps.specs.Replay.{step, state, opening, CanRun}
 use Rattle.machine_steps.specs.Picks.{picked}
 use Rattle.machine_steps.specs.Reports.{report_parts, report}
 use Rattle.machine_steps.specs.Headline.{IsReport}
@@ -27,12 +27,25 @@ use Rattle.machine_steps.specs.Results.{Task, RunTask, ReplayTask, MakeTask, res
 -- The first entry that can't be performed, told by how many stand before it: the first one whose actor isn't enabled in the state after
 -- the entries before it. After an end no actor is. From this state, behind so many entries.
 abbrev pub barred_from : World → State → ℕ → List Actor → Option ℕ
-barred_from w s before [] = None
-barred_from w s before (actor ∷ actors) = if is_enabled w s actor then barred_from w (step w s actor) (before + 1) actors else Some before
+barred_from w s place [] = None
+barred_from w s place (actor ∷ actors) = if is_enabled w s actor then barred_from w (step w s actor) (place + 1) actors else Some place
+
+abbrev pub barred_at : World → List Actor → Option ℕ
+barred_at w schedule = barred_from w (opening w.job) 0 schedule
+
+-- So it reads: the entries before it can be run, so many as they are, and in the state after them its actor isn't enabled.
+pub record IsBarred (w : World) (schedule : List Actor) (n : ℕ) : Type 0 where
+  pub front : List Actor
+  pub actor : Actor
+  pub back : List Actor
+  pub split : schedule ≡ front ++ actor ∷ back
+  pub place : length front ≡ n
+  pub can_run : CanRun w front
+  pub barred : is_enabled w (state w front) actor ≡ false
 
 -- the refusal of a replay, which comes with the run
 abbrev pub replay_refusal : World → List Actor → Option Refusal
-replay_refusal w schedule = option_map BadEntry (barred_from w (opening w.job) 0 schedule)
+replay_refusal w schedule = option_map BadEntry (barred_at w schedule)
 
 -- ---- the status of a run's end
 

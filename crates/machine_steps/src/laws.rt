@@ -1,7 +1,8 @@
-ghost use Rattle.machine_steps.specs.Laws.{NoneAfterEnd, HasStepLeft, SomeoneIsEnabled, CountsOne, AddsRecords, PerformsNextCall, OutputGrows, ObjectsStay, FewThreads, ClassesStay, LoadsOnce, StaysFailed, NamesDiffer, FramesAreBorn, CodeStays, PickedCanRun, PickedEnds, FitsLimit, NoEndBefore, StatesNamed, StatesSchedule};
+ghost use Rattle.machine_steps.specs.Laws.{NoneAfterEnd, HasStepLeft, SomeoneIsEnabled, CountsOne, AddsRecords, PerformsNextCall, TakesNoOtherCall, OutputGrows, ObjectsStay, FewThreads, ClassesStay, LoadsOnce, StaysFailed, FailsLoads, NamesDiffer, FramesAreBorn, CodeStays, PickedCanRun, PickedEnds, FitsLimit, NoEndBefore, StatesNamed, StatesSchedule};
 ghost use Rattle.machine_steps.specs.CheckLaws.{PassesOrFails};
+ghost use Rattle.machine_steps.specs.Reachable.{PartsOfCoded, FramesHaveCode, StatesHaveParts};
 ghost use Rattle.machine_steps.specs.Bounds.{TasksAreBounded};
-ghost use Rattle.machine_steps.specs.ReportLaws.{PickedIsReported, WrittenIsWritten, ReplaysSame};
+ghost use Rattle.machine_steps.specs.ReportLaws.{BarredExactly, PickedIsReported, WrittenIsWritten, ReplaysSame};
 
 /// Does nothing, and is there for its contract: the laws of the steps, whatever the job and its agents do.
 pub fn step_laws()
@@ -13,6 +14,9 @@ pub fn step_laws()
 
     // The next call of an actor, if it has one, is what its next step performs.
     ensures calls { PerformsNextCall }
+
+    // Where an actor has no next call, its next step takes none from a queue or a script.
+    ensures no_calls { TakesNoOtherCall }
 
     // Output only grows.
     ensures output { OutputGrows }
@@ -31,6 +35,9 @@ pub fn step_laws()
 
     // A class whose load has failed is never loaded, and its error stays.
     ensures failed { StaysFailed }
+
+    // A load that is refused, and one whose class isn't accepted, has failed, with that class of error.
+    ensures fails { FailsLoads }
 
     // After every schedule no two classes have the same name.
     ensures names { NamesDiffer }
@@ -75,10 +82,25 @@ pub fn schedule_laws()
     ensures states { StatesSchedule }
 {}
 
+/// Does nothing, and is there for its contract: the laws of the parts that stand for states.
+pub fn parts_laws()
+    // A state each of whose frames has code has parts that stand for it, and no other state has.
+    ensures coded { PartsOfCoded }
+
+    // After every schedule each frame has code, where files are bytes, rules make bytes of bytes, and calls push no frame.
+    ensures frames { FramesHaveCode }
+
+    // So after every schedule there are parts that stand for the state.
+    ensures parts { StatesHaveParts }
+{}
+
 /// Does nothing, and is there for its contract: the laws of what is written.
 pub fn report_laws()
     // What is accepted is within its bounds.
     ensures bounded { TasksAreBounded }
+
+    // A schedule is refused with the place of its first entry that can't be performed, and isn't refused exactly where it can be run.
+    ensures barred { BarredExactly }
 
     // The report of the picked schedule states that schedule, which can be run, and is the report of it to its end.
     ensures picked { PickedIsReported }

@@ -4,4 +4,4 @@
 
 mod laws;
 
-pub use laws::{report_laws, schedule_laws, step_laws};
+pub use laws::{parts_laws, report_laws, schedule_laws, step_laws};

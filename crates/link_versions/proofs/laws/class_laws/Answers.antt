@@ -1,5 +1,6 @@
 use Rattle.link_versions.proofs.Counting.{installed_there, installed_newest, versions_stay, numbers_stay, orders_stay, superclasses_stay, states_stay, classes_stay, defined_there}
 use Rattle.link_versions.proofs.NumberLaws.{method_numbers_stay, declared_as, lets_go, lets_in, defined_numbered}
+use Rattle.link_versions.proofs.NewNumbers.{numbers_new}
 use Rattle.link_versions.proofs.laws.class_laws.Goals as goal
 
 pub returns-clause-installed : goal.returns-clause-installed
@@ -43,3 +44,6 @@ returns-clause-lets_in c = lets_in
 
 pub returns-clause-numbered : goal.returns-clause-numbered
 returns-clause-numbered c = defined_numbered
+
+pub returns-clause-new_numbers : goal.returns-clause-new_numbers
+returns-clause-new_numbers c = numbers_new

@@ -1,9 +1,13 @@
 use Rattle.machine_steps.proofs.Bounded.{tasks_are_bounded}
+use Rattle.machine_steps.proofs.Barring.{barred_exactly}
 use Rattle.machine_steps.proofs.Reporting.{picked_is_reported, written_is_written, replays_same}
 use Rattle.machine_steps.proofs.laws.report_laws.Goals as goal
 
 pub returns-clause-bounded : goal.returns-clause-bounded
 returns-clause-bounded c = tasks_are_bounded
+
+pub returns-clause-barred : goal.returns-clause-barred
+returns-clause-barred c = barred_exactly
 
 pub returns-clause-picked : goal.returns-clause-picked
 returns-clause-picked c = picked_is_reported
