@@ -199,30 +199,34 @@ module _ (job : Job) (turns : Turns) (makes : MakesBytes turns) where
 
   -- ---- trees
 
-  abbrev AreListed : List Tree → Type 0
-  AreListed ts = AllByRecursion IsListed ts
+  -- what holds of every well-formed tree, and of the base class of this name
+  module _ (P : Tree → Type 0) (formed : (t : Tree) → is_well_formed t ≡ true → P t) where
+    tree_by : {E : Type 0} (read : Result Tree E) → ((u : Tree) → read ≡ Ok u → is_well_formed u ≡ true) → (t : Tree)
+        → (elim read as (λ _. Option Tree) [ Ok t ↦ Some t | Err fault ↦ None ]) ≡ Some t → P t
+    tree_by (Ok u) h t e = let same : u ≡ t = cc in subst P same (formed u (h u refl))
+    tree_by (Err fault) h t e = absurd cc
 
-  tree_by : {E : Type 0} (read : Result Tree E) → ((u : Tree) → read ≡ Ok u → is_well_formed u ≡ true) → (t : Tree)
-      → (elim read as (λ _. Option Tree) [ Ok t ↦ Some t | Err fault ↦ None ]) ≡ Some t → IsListed t
-  tree_by (Ok u) h t e = let same : u ≡ t = cc in subst IsListed same (formed_listed u (h u refl))
-  tree_by (Err fault) h t e = absurd cc
+    read_by : (found : Option Tree) (rest : List Tree) → ((t : Tree) → found ≡ Some t → P t) → AllByRecursion P rest
+        → AllByRecursion P (cons_option found rest)
+    read_by None rest h k = k
+    read_by (Some t) rest h k = (h t refl, k)
 
-  read_by : (found : Option Tree) (rest : List Tree) → ((t : Tree) → found ≡ Some t → IsListed t) → AreListed rest → AreListed (cons_option found rest)
-  read_by None rest h k = k
-  read_by (Some t) rest h k = (h t refl, k)
+    read_all : (vs : List Version) → AllByRecursion IsBytes vs → AllByRecursion P (filter_map (λ v. tree_of v.bytes) vs)
+    read_all [] all = tt
+    read_all (v ∷ vs) all =
+        read_by (tree_of v.bytes) (filter_map (λ v. tree_of v.bytes) vs)
+        (tree_by (class_of v.bytes) (λ u is. (let spelled = class_sound v.bytes u all.0.bytes is in spelled.well_formed))) (read_all vs all.1)
 
-  read_listed : (vs : List Version) → AllByRecursion IsBytes vs → AreListed (filter_map (λ v. tree_of v.bytes) vs)
-  read_listed [] all = tt
-  read_listed (v ∷ vs) all =
-      read_by (tree_of v.bytes) (filter_map (λ v. tree_of v.bytes) vs)
-      (tree_by (class_of v.bytes) (λ u is. (let spelled = class_sound v.bytes u all.0.bytes is in spelled.well_formed))) (read_listed vs all.1)
+    base_by : (found : Option BaseClass) (rest : List Tree) → ((c : BaseClass) → found ≡ Some c → P (base_tree c)) → AllByRecursion P rest
+        → AllByRecursion P (elim (option_map base_tree found) as (λ _. List Tree) [ Some t ↦ t ∷ [] | None ↦ rest ])
+    base_by None rest base h = h
+    base_by (Some c) rest base h = (base c refl, tt)
 
-  base_by : (found : Option BaseClass) (rest : List Tree) → AreListed rest
-      → AreListed (elim (option_map base_tree found) as (λ _. List Tree) [ Some t ↦ t ∷ [] | None ↦ rest ])
-  base_by None rest h = h
-  base_by (Some c) rest h = (base_listed c, tt)
+    pub trees_all : (trace : Trace) (name : Name) → ((c : BaseClass) → find (has_name name) base_set ≡ Some c → P (base_tree c))
+        → AllHoldBytes trace → AllByRecursion P (trees job turns trace name)
+    trees_all trace name base all =
+        base_by (find (has_name name) base_set) (filter_map (λ v. tree_of v.bytes) (versions job turns name trace)) base
+        (read_all (versions job turns name trace) (versions_bytes name [] [] trace refl all))
 
   pub trees_listed : (trace : Trace) (name : Name) → AllHoldBytes trace → AllByRecursion IsListed (trees job turns trace name)
-  trees_listed trace name all =
-      base_by (find (has_name name) base_set) (filter_map (λ v. tree_of v.bytes) (versions job turns name trace))
-      (read_listed (versions job turns name trace) (versions_bytes name [] [] trace refl all))
+  trees_listed trace name all = trees_all IsListed formed_listed trace name (λ c is. base_listed c) all

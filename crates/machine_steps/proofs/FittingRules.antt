@@ -20,7 +20,7 @@ use Rattle.machine_steps.proofs.FittingSteps.{StepFits, TakesFit, agent_takes, a
 use Rattle.machine_steps.specs.Actors.{inits, live_acts, machine_acts, next_acts, next_call, phase_acts, starts}
 use Rattle.machine_steps.specs.Announcing.{announced, announcing, pre_events}
 use Rattle.machine_steps.specs.Calls.{NextCall, has_calls, performs, queued, waiting_call}
-use Rattle.machine_steps.specs.Reachable.{FitsCall, IsOfBytes}
+use Rattle.machine_steps.specs.Reachable.{FitsCall, IsOrderly}
 use Rattle.machine_steps.specs.Sites.{Stop, classes_now, stop_of}
 use Rattle.machine_steps.specs.ThreadRules.{Begins, Ends, EntersMethod, Executes, Initializes, Joins, Performs, Stays, ThreadRule, Unwinds, Wakes, rule_of}
 use Rattle.machine_steps.specs.Threads.{announced_state, begins, behind_instruction, completed_top, ends_thread, executes, has_thread_ended, joins, may_wake, outcome_of, resolved, rule_acts, thread_acts_of, wakes}
@@ -221,7 +221,7 @@ module _ (now : List Class) where
   performs_with calls first None h k gives = none_fits now
   performs_with calls first (Some acts) h k gives = performed_by calls first acts h (joined_fit first acts h k (gives acts refl))
 
-  executes_fit : (w : World) (s : State) (classes : List Class) (t : ThreadNo) (thread : Thread) (f : MethodFrame) → IsOfBytes w → IsOver now classes
+  executes_fit : (w : World) (s : State) (classes : List Class) (t : ThreadNo) (thread : Thread) (f : MethodFrame) → IsOrderly w → IsOver now classes
       → Gives (executes w s classes t thread f)
   executes_fit w s classes t thread f plain over =
       let stop = stop_of w s classes t thread f in
@@ -234,7 +234,7 @@ module _ (now : List Class) where
 
   -- ---- what each rule does
 
-  rule_fits : (w : World) (s : State) (classes : List Class) (t : ThreadNo) (thread : Thread) (rule : ThreadRule) → IsOfBytes w → IsOver now classes
+  rule_fits : (w : World) (s : State) (classes : List Class) (t : ThreadNo) (thread : Thread) (rule : ThreadRule) → IsOrderly w → IsOver now classes
       → Gives (rule_acts w s classes t thread rule)
   rule_fits w s classes t thread (Performs p) plain over =
       calls_fit now (performs w s (actors.Thread t) (queued (actors.Thread t) p))
@@ -265,11 +265,11 @@ module _ (now : List Class) where
       live_fits false false = none_fits now
   phase_fits core phases.Dead = none_fits now
 
-  machine_fits : (w : World) (s : State) (next : Option NextCall) → IsOfBytes w → TakesFit next → Gives (machine_acts w s next)
+  machine_fits : (w : World) (s : State) (next : Option NextCall) → IsOrderly w → TakesFit next → Gives (machine_acts w s next)
   machine_fits w s (Some c) plain takes = calls_fit now (performs w s Vm c) (performed_fit w s Vm c plain (takes c refl))
   machine_fits w s None plain takes = phase_fits s.core s.core.phase
 
-  agent_fits : (w : World) (s : State) (env : EnvNo) (next : Option NextCall) → IsOfBytes w → TakesFit next
+  agent_fits : (w : World) (s : State) (env : EnvNo) (next : Option NextCall) → IsOrderly w → TakesFit next
       → Gives (option_map (performs w s (Agent env)) next)
   agent_fits w s env None plain takes = none_fits now
   agent_fits w s env (Some c) plain takes =
@@ -277,7 +277,7 @@ module _ (now : List Class) where
 
 -- ---- every step
 
-pub steps_fit : (w : World) (s : State) (actor : Actor) → IsOfBytes w → (acts : List Act) → next_acts w s actor ≡ Some acts
+pub steps_fit : (w : World) (s : State) (actor : Actor) → IsOrderly w → (acts : List Act) → next_acts w s actor ≡ Some acts
     → StepFits (classes_now w s) acts
 steps_fit w s Vm plain = machine_fits (classes_now w s) w s (next_call w s Vm) plain (queued_takes Vm (waiting_call s.core Vm))
 steps_fit w s (actors.Thread t) plain =

@@ -29,7 +29,7 @@ use Rattle.machine_steps.specs.Calls.{NextCall, answer_to, performs, queued, que
 use Rattle.machine_steps.specs.Initializing.{Constant, Constants, Is, Text, begins_init, begins_with, constants_at, constants_made, ends_init, enters_initializer, enters_or_ends, init_step, init_step_in, init_supers, initializer, must_begin, no_constants, overflow_name, progress_step, pushes_initializer, set_to, set_to_new, state_of_class, string_at, string_name, was_entered, with_string}
 use Rattle.machine_steps.specs.Linking.{link_step, links_checked, links_in, next_link, passes_check, verify_name}
 use Rattle.machine_steps.specs.Loading.{Load, Loads, Met, Refuses, Repeats, bytes_given, is_accepted, load_ends, load_step, loads, next_load, turn_notes, turns_from}
-use Rattle.machine_steps.specs.Reachable.{FitsCall, IsOfBytes}
+use Rattle.machine_steps.specs.Reachable.{FitsCall, IsOrderly}
 use Rattle.ti_ids.specs.declared.state.Activity.{Activity}
 use Rattle.ti_ids.specs.declared.state.Activity.TheVariants.{Free, Throwing, Waiting, Joining, Wanting}
 use Rattle.instruction_effect.specs.Monitors.{wish_ends}
@@ -159,12 +159,12 @@ agent_takes w s env (Some agent) c is =
     (or_takes (queued_call s.core (Agent env)) (script_call w s env agent) (queued_takes (Agent env) (waiting_call s.core (Agent env)))
     (script_takes w s env (at_number agent.script (script_place s.core env + 1)))) c is
 
-answered_fit : (w : World) (s : State) (env : EnvNo) (call : Call) (actor : Actor) (refusal : Option ErrorCode) → IsOfBytes w
+answered_fit : (w : World) (s : State) (env : EnvNo) (call : Call) (actor : Actor) (refusal : Option ErrorCode) → IsOrderly w
     → AllCall (elim refusal as (λ _. Answer) [ Some code ↦ refused code | None ↦ w.answers s env call actor ]).acts
 answered_fit w s env call actor (Some code) plain = tt
 answered_fit w s env call actor None plain = plain.calls s env call actor
 
-pub performed_fit : (w : World) (s : State) (actor : Actor) (c : NextCall) → IsOfBytes w → FitsCall (Changes c.take) → AllCall (performs w s actor c)
+pub performed_fit : (w : World) (s : State) (actor : Actor) (c : NextCall) → IsOrderly w → FitsCall (Changes c.take) → AllCall (performs w s actor c)
 performed_fit w s actor c plain h =
     let answer : Answer = answer_to w s actor c in (
       h,
@@ -245,7 +245,7 @@ module _ (now : List Class) where
       let failing : List Act = Notes (LoadFailed name error) ∷ Changes (Fails name error) ∷ [] in
       new_fit FitsCall (λ t a. tt) (λ o. tt) (λ e. tt) classes core t (notes ++ failing) error (append_all FitsCall notes failing h (tt, (tt, tt)))
 
-  load_fits : (w : World) (s : State) (classes : List Class) (t : ThreadNo) (load : Load) → IsOfBytes w → Gives (load_step w s classes t load)
+  load_fits : (w : World) (s : State) (classes : List Class) (t : ThreadNo) (load : Load) → IsOrderly w → Gives (load_step w s classes t load)
   load_fits w s classes t Met plain = none_fits
   load_fits w s classes t (Loads name) plain =
       let bytes = bytes_given w.job name in
@@ -373,7 +373,7 @@ module _ (now : List Class) where
   wish_fits t (Waiting o) = tt
   wish_fits t (Joining other) = tt
 
-  pub resolved_fits : (w : World) (s : State) (classes : List Class) (t : ThreadNo) (o : Outcome) → IsOfBytes w → FitsOutcome now o
+  pub resolved_fits : (w : World) (s : State) (classes : List Class) (t : ThreadNo) (o : Outcome) → IsOrderly w → FitsOutcome now o
       → Gives (resolved w s classes t o)
   resolved_fits w s classes t (Goes acts) plain h =
       events_fit (wish_ends t (activity_of s.core t) ++ acts) (append_all (Fits now) (wish_ends t (activity_of s.core t)) acts

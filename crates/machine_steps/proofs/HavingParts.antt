@@ -31,7 +31,7 @@ use Rattle.machine_steps.proofs.StayingCode.{born_stays, split}
 use Rattle.machine_steps.proofs.Stepping.{classes_stay}
 use Rattle.machine_steps.specs.Actors.{next_acts}
 use Rattle.machine_steps.specs.Laws.{ComesBefore}
-use Rattle.machine_steps.specs.Reachable.{AreCoded, FramesHaveCode, IsOfBytes, StatesHaveParts}
+use Rattle.machine_steps.specs.Reachable.{AreCoded, FramesHaveCode, IsOrderly, StatesHaveParts}
 use Rattle.machine_steps.specs.Replay.{opening, run_from, state, step, step_by}
 use Rattle.machine_steps.specs.Sites.{classes_now}
 use Rattle.machine_steps.specs.World.{World}
@@ -69,7 +69,7 @@ bodied_there classes m body has = by (numbered classes m.class.0) refl has
 
 -- ---- a frame that is pushed, at the end of its step
 
-module _ (w : World) (plain : IsOfBytes w) (actor : Actor) (birth : ℕ) (s after : State) (g : GoesQuietly w actor birth s after)
+module _ (w : World) (plain : IsOrderly w) (actor : Actor) (birth : ℕ) (s after : State) (g : GoesQuietly w actor birth s after)
     (named : ComesBefore (names_of s.core.classes) (names_of after.core.classes)) (holds : AllHoldBytes after.trace)
     (now_is : birth ≡ length after.trace) where
   abbrev classes_then : List Class
@@ -110,7 +110,7 @@ record IsKept (w : World) (s : State) : Type 0 where
   born : IsBornIn s
   coded : AreCoded w s
 
-module _ (w : World) (plain : IsOfBytes w) where
+module _ (w : World) (plain : IsOrderly w) where
   module _ (s : State) (actor : Actor) (kept : IsKept w s) (acts : List Act) (is : next_acts w s actor ≡ Some acts) where
     abbrev after : State
     after = step_by w s actor (Some acts)
@@ -163,3 +163,7 @@ frames_have_code w schedule plain = (let kept = kept_from w plain (opening w.job
 
 pub states_have_parts : StatesHaveParts
 states_have_parts w schedule plain = parts_of_coded.made w (state w schedule) schedule (frames_have_code w schedule plain)
+
+-- after every schedule the trace holds bytes
+pub traces_hold : (w : World) (schedule : List Actor) → IsOrderly w → AllHoldBytes (state w schedule).trace
+traces_hold w schedule plain = (let kept = kept_from w plain (opening w.job) schedule (opening_kept w plain) in kept.holds)

@@ -25,3 +25,7 @@ pub mod FittingRules
 pub mod CodedFrames
 pub mod ReachedFrames
 pub mod HavingParts
+pub mod BaseTreesFormed
+pub mod LawfulClasses
+pub mod LoadingSupers
+pub mod AcceptedNames

@@ -24,3 +24,4 @@ pub mod Written
 pub mod ReportLaws
 pub mod CheckLaws
 pub mod Reachable
+pub mod LawfulClasses

@@ -34,8 +34,8 @@ FitsCall (Changes (Pushes t f)) = ⊥
 FitsCall (Changes c) = Unit {0}
 FitsCall (Notes what) = HoldsBytes what
 
--- The files of the job are bytes, rules make bytes of bytes, and so each act of a call fits: what those that the definitions give do.
-pub record IsOfBytes (w : World) : Type 0 where
+-- What a job, its rules and its calls give is as it must be: files are bytes, rules make bytes of bytes, and each act of a call fits.
+pub record IsOrderly (w : World) : Type 0 where
   pub files : HasBytes w.job
   pub rules : MakesBytes w.turns
   pub calls : (s : State) (env : EnvNo) (call : Call) (actor : Actor) → AllByRecursion FitsCall (w.answers s env call actor).acts
@@ -57,8 +57,8 @@ pub record PartsOfCoded : Type 0 where
 
 -- After every schedule each frame has code.
 abbrev pub FramesHaveCode : Type 0
-FramesHaveCode = (w : World) (schedule : List Actor) → IsOfBytes w → AreCoded w (state w schedule)
+FramesHaveCode = (w : World) (schedule : List Actor) → IsOrderly w → AreCoded w (state w schedule)
 
 -- After every schedule the state has parts that stand for it.
 abbrev pub StatesHaveParts : Type 0
-StatesHaveParts = (w : World) (schedule : List Actor) → IsOfBytes w → HasParts w (state w schedule) schedule
+StatesHaveParts = (w : World) (schedule : List Actor) → IsOrderly w → HasParts w (state w schedule) schedule

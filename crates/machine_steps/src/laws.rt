@@ -1,6 +1,7 @@
 ghost use Rattle.machine_steps.specs.Laws.{NoneAfterEnd, HasStepLeft, SomeoneIsEnabled, CountsOne, AddsRecords, PerformsNextCall, TakesNoOtherCall, OutputGrows, ObjectsStay, FewThreads, ClassesStay, LoadsOnce, StaysFailed, FailsLoads, NamesDiffer, FramesAreBorn, CodeStays, PickedCanRun, PickedEnds, FitsLimit, NoEndBefore, StatesNamed, StatesSchedule};
 ghost use Rattle.machine_steps.specs.CheckLaws.{PassesOrFails};
 ghost use Rattle.machine_steps.specs.Reachable.{PartsOfCoded, FramesHaveCode, StatesHaveParts};
+ghost use Rattle.machine_steps.specs.LawfulClasses.{ClassesArePlaced, LoadsSupersFirst, AcceptsSameNames, VersionsAreWellFormed, ArraysAreOfTheirNames};
 ghost use Rattle.machine_steps.specs.Bounds.{TasksAreBounded};
 ghost use Rattle.machine_steps.specs.ReportLaws.{BarredExactly, PickedIsReported, WrittenIsWritten, ReplaysSame};
 
@@ -92,6 +93,24 @@ pub fn parts_laws()
 
     // So after every schedule there are parts that stand for the state.
     ensures parts { StatesHaveParts }
+{}
+
+/// Does nothing, and is there for its contract: the laws of the classes, as they are linked.
+pub fn class_laws()
+    // After every schedule each class has a name of its own, and its superclass and its interfaces are classes before it.
+    ensures placed { ClassesArePlaced }
+
+    // A class is loaded only when its superclass and its superinterfaces are there, once the base classes are.
+    ensures supers { LoadsSupersFirst }
+
+    // What is accepted of it has its name, and the superclass and the superinterfaces that its file names.
+    ensures accepted { AcceptsSameNames }
+
+    // Each version of each class is well-formed then, where files are bytes and rules make bytes of bytes.
+    ensures formed { VersionsAreWellFormed }
+
+    // Each array class is what its name says.
+    ensures arrays { ArraysAreOfTheirNames }
 {}
 
 /// Does nothing, and is there for its contract: the laws of what is written.
