@@ -157,12 +157,12 @@ request_bounded (first ∷ words) request e = if_command (command_of first) (pai
 -- ---- answers one after the other
 
 -- the first has answered, and what follows goes by that
-record Came {A B : Type 0} (first : Admitted A) (so : A → Admitted B) (last : B) : Type 0 where
-  value : A
-  is : first ≡ Ok value
-  rest : so value ≡ Ok last
+pub record Came {A B : Type 0} (first : Admitted A) (so : A → Admitted B) (last : B) : Type 0 where
+  pub value : A
+  pub is : first ≡ Ok value
+  pub rest : so value ≡ Ok last
 
-came : {A B : Type 0} (first : Admitted A) (so : A → Admitted B) (last : B) → (first >>= so) ≡ Ok last → Came first so last
+pub came : {A B : Type 0} (first : Admitted A) (so : A → Admitted B) (last : B) → (first >>= so) ≡ Ok last → Came first so last
 came (Ok x) so last e = record { value = x; is = refl; rest = e }
 came (Err refusal) so last e = absurd cc
 

@@ -11,6 +11,7 @@ pub mod Picking
 pub mod Ending
 pub mod Statable
 pub mod Bounded
+pub mod OwnFiles
 pub mod Barring
 pub mod Reporting
 pub mod LoadingOnce

@@ -1,7 +1,13 @@
--- What accepted words and files bound: each number by the option that gives it, and the numbers of files.
-use Rattle.std.specs.Prelude.{◌≡◌, ℕ, ◌≤◌, Bool, true, false, ◌&&◌, nat_le, List, length, find, bytes_eq, codes, Result, Ok}
+-- What accepted words and files are: each number is bounded by the option that gives it, and so are the numbers of files; each class file is
+-- of a class of its own.
+use Rattle.std.specs.Prelude.{◌≡◌, ℕ, ◌≤◌, Bool, true, false, ◌&&◌, nat_le, List, length, find, map, Some, bytes_eq, codes, Result, Ok}
+use Rattle.std.specs.List.{AllByRecursion, IsDistinct}
 use Rattle.std.specs.Option.{option_map_or}
-use Rattle.machine_state.specs.Jobs.{Job}
+use Rattle.class_tree.specs.Trees.{Tree}
+use Rattle.machine_state.specs.Linked.{tree_of}
+use Rattle.base_set.specs.BaseSet.{is_base}
+use Rattle.machine_state.specs.Jobs.{File, Job}
+use Rattle.job_words.specs.Contents.{own_name}
 use Rattle.machine_steps.specs.World.{AgentReading}
 use Rattle.job_words.specs.declared.input_limit.InputLimit.TheVariants.{Classes, Donors, Agents}
 use Rattle.job_words.specs.Options.{Word, Form, ClassName, FileName, NumberIn, choices}
@@ -39,3 +45,28 @@ abbrev pub TasksAreBounded : Type 0
 TasksAreBounded =
     (read_agent : AgentReading) (words : List Word) (files : Files) (task : Task)
     → result_of read_agent words files ≡ Ok task → IsBoundedTask task
+
+-- ---- class files
+
+-- the bytes are a class, which has this name and isn't one of the base set
+pub record IsClassFile (f : File) : Type 0 where
+  pub tree : Tree
+  pub read : tree_of f.bytes ≡ Some tree
+  pub named : own_name tree ≡ f.name
+  pub own : is_base f.name ≡ false
+
+-- so are those of each file of a job, and no two files are of one class
+pub record HasOwnFiles (job : Job) : Type 0 where
+  pub classes : AllByRecursion IsClassFile job.files
+  pub distinct : IsDistinct bytes_eq (map (λ f. f.name) job.files)
+
+abbrev pub HasOwnFilesOfTask : Task → Type 0
+HasOwnFilesOfTask (RunTask job workers) = HasOwnFiles job
+HasOwnFilesOfTask (ReplayTask job schedule) = HasOwnFiles job
+HasOwnFilesOfTask (MakeTask number size) = Unit {0}
+
+-- What is accepted has class files of its own.
+abbrev pub TasksHaveOwnFiles : Type 0
+TasksHaveOwnFiles =
+    (read_agent : AgentReading) (words : List Word) (files : Files) (task : Task)
+    → result_of read_agent words files ≡ Ok task → HasOwnFilesOfTask task

@@ -2,7 +2,7 @@ ghost use Rattle.machine_steps.specs.Laws.{NoneAfterEnd, HasStepLeft, SomeoneIsE
 ghost use Rattle.machine_steps.specs.CheckLaws.{PassesOrFails};
 ghost use Rattle.machine_steps.specs.Reachable.{PartsOfCoded, FramesHaveCode, StatesHaveParts};
 ghost use Rattle.machine_steps.specs.LawfulClasses.{ClassesArePlaced, LoadsSupersFirst, AcceptsSameNames, VersionsAreWellFormed, ArraysAreOfTheirNames};
-ghost use Rattle.machine_steps.specs.Bounds.{TasksAreBounded};
+ghost use Rattle.machine_steps.specs.Bounds.{TasksAreBounded, TasksHaveOwnFiles};
 ghost use Rattle.machine_steps.specs.ReportLaws.{BarredExactly, PickedIsReported, WrittenIsWritten, ReplaysSame};
 
 /// Does nothing, and is there for its contract: the laws of the steps, whatever the job and its agents do.
@@ -117,6 +117,9 @@ pub fn class_laws()
 pub fn report_laws()
     // What is accepted is within its bounds.
     ensures bounded { TasksAreBounded }
+
+    // Its class files are of classes that differ, and none is of a base class.
+    ensures files { TasksHaveOwnFiles }
 
     // A schedule is refused with the place of its first entry that can't be performed, and isn't refused exactly where it can be run.
     ensures barred { BarredExactly }
