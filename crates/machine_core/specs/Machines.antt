@@ -19,4 +19,4 @@ may_step m actor = is_enabled m.job (state_in m) actor
 abbrev pub StepTold : Result (Unit {0}) CoreFault → Actor → MachineValue → MachineValue → Type 0
 StepTold (Ok u) actor old new = (old.spent ≡ false) × (may_step old actor ≡ true) × (new ≡ record old { schedule = old.schedule ++ actor ∷ [] })
 StepTold (Err NotEnabled) actor old new = (old.spent ≡ false) × (may_step old actor ≡ false) × (new ≡ old)
-StepTold (Err Memory) actor old new = new ≡ record old { spent = true }
+StepTold (Err Memory) actor old new = (old.spent ≡ false → may_step old actor ≡ true) × (new ≡ record old { spent = true })

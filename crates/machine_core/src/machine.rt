@@ -229,7 +229,12 @@ impl Machine {
         // Where there is no end, some actor is picked.
         ensures some { self.now.spent ≡ false → end_of self.now.job (state_in self.now) ≡ None → is_some result ≡ true }
         ensures row { self.now.spent ≡ false → IfSome result (λ p. p.1 ≤ made) }
+        // A spent machine picks none.
+        ensures spent { self.now.spent ≡ true → result ≡ None }
     {
+        if self.spent {
+            return None;
+        }
         self.pick_next(current, made)
     }
 
