@@ -45,3 +45,4 @@ pub mod TransformerRemoved
 pub mod BytesOfAMethod
 pub mod MethodsCompared
 pub mod StatusesSeen
+pub mod MadePrintsLast

@@ -3,6 +3,7 @@
 
 mod agents;
 mod computed;
+mod made;
 mod programs;
 mod refused;
 mod statuses;
@@ -10,6 +11,7 @@ mod words;
 
 pub use agents::{call_rows, event_rows};
 pub use computed::{agent_rows, chain_rows, java_rows, limit_rows, worked_rows};
+pub use made::made_rows;
 pub use programs::{java_program_rows, java_thread_rows};
 pub use refused::refused_rows;
 pub use statuses::{compared_methods, seen_statuses};

@@ -14,7 +14,7 @@ use Rattle.job_words.specs.declared.refusal.Refusal.TheVariants.{BadEntry}
 use Rattle.job_words.specs.Fetches.{Admitted}
 use Rattle.machine_steps.specs.Results.{Task, RunTask, ReplayTask, MakeTask, result_of}
 use Rattle.machine_steps.specs.Bounds.{IsBounded, IsBoundedTask}
-use Rattle.machine_steps.specs.Written.{replay_refusal, Written, refused, reported_by, reported, replayed_by, replayed, IsReported, IsWrittenBy, written_by}
+use Rattle.machine_steps.specs.Written.{replay_refusal, Written, refused, reported_by, reported, replayed_by, replayed, IsReported, IsWrittenBy, written_by, made}
 use Rattle.machine_steps.specs.ReportLaws.{PickedIsReported, WrittenIsWritten, ReplaysSame}
 use Rattle.machine_steps.proofs.Ending.{picked_can_run, picked_ends}
 use Rattle.machine_steps.proofs.Statable.{states_schedule}
@@ -66,7 +66,7 @@ by_task meaning (RunTask job workers) it bounded e =
     let w = world_of meaning job in
     one_worker w workers (picked job.limits.slice w) it (workers == 1) (picked_is_reported job.limits.slice w (unsliced_bounded job bounded.0)) e
 by_task meaning (ReplayTask job schedule) it bounded e = sym (same_some (replayed (world_of meaning job) schedule) it e)
-by_task meaning (MakeTask number size) it bounded e = tt
+by_task meaning (MakeTask number size) it bounded e = sym (same_some (made meaning number size) it e)
 
 by_answer : (meaning : Meaning) (answer : Admitted Task) (it : Written) → ((task : Task) → answer ≡ Ok task → IsBoundedTask task)
     → written_by meaning answer ≡ Some it → IsWrittenBy meaning answer it

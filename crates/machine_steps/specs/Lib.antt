@@ -17,6 +17,7 @@ pub mod Reports
 pub mod Headline
 pub mod Laws
 pub mod Results
+pub mod MadeJob
 pub mod Bounds
 pub mod Parts
 pub mod StandsFor
