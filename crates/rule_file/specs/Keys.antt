@@ -60,9 +60,13 @@ is_text d = is_some (as_str d)
 abbrev pub is_one_of : List (List ℕ) → Data → Bool
 is_one_of texts d = option_map_or (λ s. list_any (bytes_eq s) texts) (as_str d) false
 
--- a list of tables, of which there are so many at most
+-- a list of tables, and a key of one, of which there are so many at most
 abbrev pub are_tables : Data → Bool
 are_tables d = option_map_or (list_all is_table) (items_of d) false
+
+-- at least one
+abbrev pub are_some_tables : Data → Bool
+are_some_tables d = are_tables d && option_map_or (λ ds. nat_le 1 (length ds)) (items_of d) false
 
 abbrev pub tables : List ℕ → ℕ → Key
 tables name most = record { name = name; must = false; fits = are_tables; most = Some most }
@@ -197,7 +201,7 @@ script_keys call = if has_place call then [] else at_key ∷ []
 abbrev pub callback_keys : List Key
 callback_keys =
     key (codes "event") (λ d. is_some (as_str d >>= event_of_name))
-    ∷ record { name = codes "calls"; must = true; fits = λ d. are_tables d && option_map_or (λ ds. nat_le 1 (length ds)) (items_of d) false; most = Some 16 }
+    ∷ record { name = codes "calls"; must = true; fits = are_some_tables; most = Some 16 }
     ∷ lackable (text_key (codes "class"))
     ∷ lackable (key (codes "thread") (λ d. option_map_or is_whole (as_integer d) false))
     ∷ []
