@@ -1,7 +1,5 @@
 -- An array class that is made has no method with a body, and changes none of the classes behind it.
-use Rattle.std.proofs.Common.{◌≡◌, ◌∙◌, ℕ, ◌-◌, ◌==◌, Bool, true, false, cond, List, [], ◌∷◌, length, Option, Some, None, refl, sym, ap}
-use Rattle.std.specs.Prelude.{slice_get}
-use Rattle.std.specs.Option.{option_and_then, option_map_or}
+use Rattle.std.proofs.Common.{◌≡◌, ◌∙◌, ℕ, ◌-◌, ◌==◌, Bool, true, false, List, ◌∷◌, length, Option, Some, None, refl, sym, ap}
 use Rattle.ti_ids.specs.Maybe.{◌>>=◌}
 use Rattle.ti_ids.specs.declared.number.ClassNo.{ClassNo}
 use Rattle.ti_ids.specs.declared.number.MethodNo.{MethodNo}
@@ -10,7 +8,7 @@ use Rattle.jv_names.specs.declared.descriptor.FieldType.{FieldType}
 use Rattle.class_tree.specs.declared.body.Code.{Code}
 use Rattle.class_tree.specs.Trees.{Tree}
 use Rattle.class_tree.specs.Tree.{code_of}
-use Rattle.link_versions.specs.Classes.{Class, OfArray, numbered, number_of, versions_of, first_version, version_at, version_count, newest_version}
+use Rattle.link_versions.specs.Classes.{Class, OfArray, numbered, number_of, version_at, version_count, newest_version}
 use Rattle.link_versions.specs.Members.{method_name, method_desc}
 use Rattle.link_versions.specs.Members.{method_in}
 use Rattle.link_versions.specs.Changes.{array_class, element_by}

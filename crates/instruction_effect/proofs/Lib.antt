@@ -1,3 +1,4 @@
+pub mod ActRules
 pub mod CallExamples
 pub mod BaseExamples
 pub mod ExampleSites
@@ -8,6 +9,19 @@ pub mod MonitorExamples
 pub mod EntryExamples
 pub mod ArrayClasses
 pub mod FittingForms
-pub mod FittingObjects
-pub mod FittingBase
-pub mod FittingCalls
+pub mod FollowingCores
+pub mod FollowingForms
+pub mod FollowingPushes
+pub mod FollowingReads
+pub mod FollowingBase
+pub mod FollowingObjects
+pub mod FollowingNumbers
+pub mod FollowingArrays
+pub mod FollowingCalls
+pub mod FollowingReturns
+pub mod FollowingLocals
+pub mod ArrayNames
+pub mod FollowingManyArrays
+pub mod FollowingEffect
+pub mod AllHold
+pub mod FittingEffect

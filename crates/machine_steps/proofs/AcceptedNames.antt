@@ -8,11 +8,11 @@ use Rattle.std.proofs.Common.{Bool, List, None, Option, Some, [], ap, false, ref
 use Rattle.std.proofs.lemmas.Slice.Eq.{bytes_eq-Decides}
 use Rattle.std.specs.Prelude.{bytes_eq, ◌&&◌}
 
-both : (a b : Bool) → (a && b) ≡ true → (a ≡ true) × (b ≡ true)
+pub both : (a b : Bool) → (a && b) ≡ true → (a ≡ true) × (b ≡ true)
 both true b e = (refl, e)
 both false b e = absurd cc
 
-same_lists : (xs ys : List Name) → same_names xs ys ≡ true → xs ≡ ys
+pub same_lists : (xs ys : List Name) → same_names xs ys ≡ true → xs ≡ ys
 same_lists [] [] e = refl
 same_lists [] (y ∷ ys) e = absurd cc
 same_lists (x ∷ xs) [] e = absurd cc
@@ -21,7 +21,7 @@ same_lists (x ∷ xs) (y ∷ ys) e =
     let first : x ≡ y = (bytes_eq-Decides x y).0 parts.0 in
     ap (λ (n : Name). n ∷ xs) first ∙ ap (λ (ns : List Name). y ∷ ns) (same_lists xs ys parts.1)
 
-listed_one : (found : Option Name) (name : Name) → listed found ≡ name ∷ [] → found ≡ Some name
+pub listed_one : (found : Option Name) (name : Name) → listed found ≡ name ∷ [] → found ≡ Some name
 listed_one None name e = absurd cc
 listed_one (Some other) name e = cc
 

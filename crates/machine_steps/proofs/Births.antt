@@ -1,9 +1,8 @@
 -- Every frame was born by now, of classes that are there.
-use Rattle.std.proofs.Common.{◌≡◌, ◌≤◌, ◌<◌, ℕ, zero, suc, ◌+◌, ◌-◌, Bool, true, false, cond, List, [], ◌∷◌, ◌++◌, length, length-append, Option, Some, None, refl, sym, subst, arith}
+use Rattle.std.proofs.Common.{◌≡◌, ◌≤◌, ◌<◌, ℕ, suc, ◌+◌, ◌-◌, Bool, true, false, cond, List, [], ◌∷◌, ◌++◌, length, length-append, Option, Some, None, refl, sym, subst, arith}
 use Rattle.jv_names.proofs.DescriptorPlaces.{and-left, and-right}
-use Rattle.std.specs.Prelude.{fold, filter, slice_get, slice_set, drop, nat_le}
+use Rattle.std.specs.Prelude.{fold, filter, drop, nat_le}
 use Rattle.std.specs.List.{AllByRecursion}
-use Rattle.std.specs.Option.{option_map_or}
 use Rattle.std.proofs.lemmas.Bool.{leb-true}
 use Rattle.std.proofs.lemmas.Bool.Decides.{nat_tests}
 use Rattle.ti_ids.specs.declared.number.ThreadNo.{ThreadNo}
@@ -11,11 +10,12 @@ use Rattle.ti_ids.specs.declared.number.ClassNo.{ClassNo}
 use Rattle.ti_ids.specs.declared.number.ObjNo.{ObjNo}
 use Rattle.ti_ids.specs.declared.actor.Actor.{Actor}
 use Rattle.thread_frames.specs.declared.frame.StackEntry.TheVariants.{Java, Init}
-use Rattle.machine_state.specs.Jobs.{Job, at_number}
+use Rattle.machine_state.specs.Jobs.{Job}
 use Rattle.machine_state.specs.Core.{Core, CoreClass, MethodFrame, StackFrame, Thread, has_class, is_of_classes, most_threads, with_thread}
 use Rattle.machine_state.specs.Trace.{Trace}
 use Rattle.link_versions.specs.Classes.{with_numbered}
 use Rattle.machine_state.specs.Acts.{State, Act, Change, Changes, Notes, Makes, PutsField, PutsElement, PutsSide, PutsBehind, PutsStatic, Enters, Leaves, GoesToWait, Notifies, NotifiesAll, TakesBack, Prints, SetsTop, Pops, Pushes, PushesInit, SetsState, SetsActivity, MakesThread, AddsClass, SetsClass, EntersInitializer, Fails, SetsPhase, MarksDeath, TakesCall, TakesScript, new_thread, is_barred, changed, acted, going_on, born_at, with_born, is_note, birth_after}
+use Rattle.machine_steps.proofs.ChangedThreads.{with_each}
 use Rattle.machine_steps.specs.World.{World}
 use Rattle.machine_steps.specs.Actors.{next_acts}
 use Rattle.machine_steps.specs.Replay.{opening, step, step_by, run_from, state}
@@ -96,24 +96,10 @@ later_threads : (n m c d : ℕ) (threads : List Thread) → n ≤ m → c ≤ d 
 later_threads n m c d [] le more h = tt
 later_threads n m c d (t ∷ threads) le more h = (later_frames n m c d t.frames le more h.0, later_threads n m c d threads le more h.1)
 
-set_old : (n c : ℕ) (threads : List Thread) (k : ℕ) (change : Thread → Thread) (found : Option Thread) → slice_get threads k ≡ found
-    → ((t : Thread) → OldThread n c t → OldThread n c (change t))
-    → AreOld n c threads → AreOld n c (option_map_or (λ t. slice_set threads k (change t)) found threads)
-set_old n c threads k change None e keep h = h
-set_old n c [] k change (Some t) e keep h = absurd cc
-set_old n c (u ∷ threads) zero change (Some t) e keep h = let same : u ≡ t = cc in (keep t (subst (OldThread n c) same h.0), h.1)
-set_old n c (u ∷ threads) (suc k) change (Some t) e keep h = (h.0, set_old n c threads k change (Some t) e keep h.1)
-
 with_old : (n c : ℕ) (core : Core) (t : ThreadNo) (change : Thread → Thread) → ((u : Thread) → OldThread n c u → OldThread n c (change u))
     → AreOld n c core.threads
     → AreOld n c (with_thread change t core).threads
-with_old n c core t change keep h = by t.0
-  where
-    by : (k : ℕ) → AreOld n c (option_map_or (λ thread. slice_set core.threads (k - 1) (change thread)) (at_number core.threads k) core.threads)
-    by zero = h
-    by (suc k) =
-        subst (λ (p : ℕ). AreOld n c (option_map_or (λ thread. slice_set core.threads p (change thread)) (slice_get core.threads k) core.threads))
-        (let same : k ≡ suc k - 1 = omega arith in same) (set_old n c core.threads k change (slice_get core.threads k) refl keep h)
+with_old n c core t change keep h = with_each (OldThread n c) core t change keep h
 
 append_old : (n c : ℕ) (threads : List Thread) (t : Thread) → OldThread n c t → AreOld n c threads → AreOld n c (threads ++ t ∷ [])
 append_old n c [] t one h = (one, tt)

@@ -55,7 +55,7 @@ absent_by name other true n rest others is e h = absurd cc
 absent_by name other false n rest others is e h = h e
 
 -- no class of the name is linked, so the core has none
-absent : (job : Job) (turns : Turns) (trace : Trace) (classes : List CoreClass) (name : Name) → number_of (linked job turns trace classes) name ≡ None
+pub absent : (job : Job) (turns : Turns) (trace : Trace) (classes : List CoreClass) (name : Name) → number_of (linked job turns trace classes) name ≡ None
     → list_any (bytes_eq name) (map (λ c. c.name) classes) ≡ false
 unfolding linked
 absent job turns trace [] name e = refl

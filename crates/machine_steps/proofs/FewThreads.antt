@@ -19,7 +19,7 @@ AreFew core = length core.threads ≤ most_threads
 
 -- ---- one change
 
-as_many : (threads : List Thread) (k : ℕ) (found : Option Thread) (change : Thread → Thread)
+pub as_many : (threads : List Thread) (k : ℕ) (found : Option Thread) (change : Thread → Thread)
     → length (option_map_or (λ thread. slice_set threads k (change thread)) found threads) ≡ length threads
 as_many threads k None change = refl
 as_many threads k (Some thread) change = length-set threads k (change thread)

@@ -4,22 +4,27 @@ use Rattle.class_code.specs.declared.instr.Instr.{Instr}
 use Rattle.class_tree.specs.declared.body.Handler.{Handler}
 use Rattle.class_tree.specs.Trees.{Tree}
 use Rattle.bytecode_local.specs.Effect.{following, instr_at}
-use Rattle.instruction_effect.proofs.FittingCalls.{effect_fits, entry_fits}
-use Rattle.instruction_effect.proofs.FittingForms.{AllFit, Fits, FitsOutcome, IsOver}
+use Rattle.instruction_effect.proofs.ActRules.{Stands}
+use Rattle.instruction_effect.proofs.FittingEffect.{effect_fits, entry_fits}
+use Rattle.machine_steps.proofs.AnnouncedFrames.{announced_stands}
+use Rattle.machine_steps.proofs.RuleThreads.{IsOf, rule_is_of}
+use Rattle.instruction_effect.proofs.FittingForms.{AllFit, Fits, FitsOutcome}
+use Rattle.instruction_effect.proofs.FollowingForms.{IsOver}
 use Rattle.instruction_effect.specs.CallEntry.{entry_outcome}
 use Rattle.instruction_effect.specs.Outcomes.{Site}
-use Rattle.instruction_effect.specs.Objects.{owns}
 use Rattle.instruction_effect.specs.Operands.{gives}
 use Rattle.link_versions.specs.Classes.{Class}
 use Rattle.machine_state.specs.Acts.{Act, Changes, Leaves, MarksDeath, Notes, Pops, SetsActivity, SetsClass, SetsPhase, SetsTop, State, TakesBack, raises}
-use Rattle.machine_state.specs.Core.{Core, MethodFrame, StackFrame, Thread, has_ended, thread_at}
+use Rattle.machine_state.specs.Core.{Core, MethodFrame, StackFrame, Thread, frames_at, has_ended, thread_at}
 use Rattle.machine_state.specs.FrameCode.{code, tree_of_frame}
 use Rattle.machine_state.specs.Jobs.{agent_at}
 use Rattle.machine_state.specs.Trace.{Died, MonitorWaited, VMDeath}
-use Rattle.machine_steps.proofs.FittingSteps.{StepFits, TakesFit, agent_takes, append_all, bind_fits, calls_fit, calls_raised, events_fit, events_raised, new_among_fits, new_fits, none_fits, performed_fit, progress_fits, queued_takes, resolved_fits, starts_fit}
+use Rattle.machine_steps.proofs.NextTakes.{agent_takes, queued_takes}
+use Rattle.machine_steps.proofs.FittingSteps.{Raises, StepFits, TakesFit, append_all, bind_fits, calls_fit, calls_raised, events_fit, events_raised, new_among_fits, new_fits, none_fits, none_raises, performed_fit, progress_fits, raises_fit, resolved_fits, some_raises, starts_fit}
 use Rattle.machine_steps.specs.Actors.{inits, live_acts, machine_acts, next_acts, next_call, phase_acts, starts}
 use Rattle.machine_steps.specs.Announcing.{announced, announcing, pre_events}
 use Rattle.machine_steps.specs.Calls.{NextCall, has_calls, performs, queued, waiting_call}
+use Rattle.machine_steps.specs.Initializing.{progress_step}
 use Rattle.machine_steps.specs.Reachable.{FitsCall, IsOrderly}
 use Rattle.machine_steps.specs.Sites.{Stop, classes_now, stop_of}
 use Rattle.machine_steps.specs.ThreadRules.{Begins, Ends, EntersMethod, Executes, Initializes, Joins, Performs, Stays, ThreadRule, Unwinds, Wakes, rule_of}
@@ -27,8 +32,9 @@ use Rattle.machine_steps.specs.Threads.{announced_state, begins, behind_instruct
 use Rattle.machine_steps.specs.Throwing.{throws_new, throws_new_among}
 use Rattle.machine_steps.specs.Unwinding.{error_name, handler_of, initializer_error, is_instance, leaves_frame, left_events, monitor_name, owns_monitor, unwinds, unwinds_frame}
 use Rattle.machine_steps.specs.World.{World}
-use Rattle.std.proofs.Common.{Bool, List, None, Option, Some, [], cond, false, inl, inr, refl, subst, true, ℕ, ◌++◌, ◌∷◌, ◌≡◌}
+use Rattle.std.proofs.Common.{ap, ◌∙◌, Bool, List, None, Option, Some, [], cond, false, inl, inr, refl, subst, true, ℕ, ◌++◌, ◌∷◌, ◌≡◌}
 use Rattle.std.specs.List.{AllByRecursion, list_all}
+use Rattle.std.specs.Option.{option_map_or}
 use Rattle.std.specs.Prelude.{if◌then◌else◌, option_map, unwrap_or}
 use Rattle.thread_frames.specs.Operands.{without_top}
 use Rattle.thread_frames.specs.declared.frame.StackEntry.TheVariants.{Init, Java}
@@ -83,7 +89,7 @@ module _ (now : List Class) where
   failed_by s classes t n false =
       new_fits now classes s.core t (Changes (SetsClass n states.Erroneous) ∷ Changes (Pops t) ∷ []) initializer_error (tt, (tt, tt))
 
-  unwinds_fit : (w : World) (s : State) (classes : List Class) (t : ThreadNo) (f : StackFrame) (o : ObjNo) → Fit (unwinds w s classes t f o)
+  pub unwinds_fit : (w : World) (s : State) (classes : List Class) (t : ThreadNo) (f : StackFrame) (o : ObjNo) → Fit (unwinds w s classes t f o)
   unwinds_fit w s classes t (Java f) o = unwound_fits s classes t f o (handler_of w s classes f o)
   unwinds_fit w s classes t (Init n) o = failed_by s classes t n (is_instance classes s.core o error_name)
 
@@ -103,27 +109,27 @@ module _ (now : List Class) where
   top_fits w s classes t thread (Init n ∷ below) = tt
   top_fits w s classes t thread [] = tt
 
-  if_gives : (b : Bool) (acts : List Act) → Fit acts → Gives (cond b (Some acts) None)
-  if_gives true acts h = events_fit now acts h
-  if_gives false acts h = none_fits now
+  if_raises : (b : Bool) (acts : List Act) → Fit acts → Raises now (cond b (Some acts) None)
+  if_raises true acts h = some_raises now acts h
+  if_raises false acts h = none_raises now
 
-  wakes_fit : (w : World) (s : State) (classes : List Class) (t : ThreadNo) (thread : Thread) (object : ObjNo)
-      → Gives (wakes w s classes t thread object)
+  pub wakes_fit : (w : World) (s : State) (classes : List Class) (t : ThreadNo) (thread : Thread) (object : ObjNo)
+      → Raises now (wakes w s classes t thread object)
   wakes_fit w s classes t thread object =
-      if_gives (may_wake s.core t object)
+      if_raises (may_wake s.core t object)
       (Changes (TakesBack object t) ∷ Changes (SetsActivity t Free) ∷ raises (MonitorWaited t object) ∷ completed_top w s classes t thread thread.frames)
       (tt, (tt, (tt, top_fits w s classes t thread thread.frames)))
 
-  joins_fit : (w : World) (s : State) (classes : List Class) (t : ThreadNo) (thread : Thread) (of : ThreadNo)
-      → Gives (joins w s classes t thread of)
+  pub joins_fit : (w : World) (s : State) (classes : List Class) (t : ThreadNo) (thread : Thread) (of : ThreadNo)
+      → Raises now (joins w s classes t thread of)
   joins_fit w s classes t thread of =
-      if_gives (has_thread_ended s.core of) (Changes (SetsActivity t Free) ∷ completed_top w s classes t thread thread.frames)
+      if_raises (has_thread_ended s.core of) (Changes (SetsActivity t Free) ∷ completed_top w s classes t thread thread.frames)
       (tt, top_fits w s classes t thread thread.frames)
 
   -- ---- an instruction
 
   tree_stops : (w : World) (s : State) (classes : List Class) (t : ThreadNo) (thread : Thread) (f : MethodFrame) (list : List (ℕ × Instr)) (i : Instr)
-      (tree : Option Tree) → IsOver now classes
+      (tree : Option Tree) → IsOver now classes → Stands s.core t thread f
       → FitsOutcome now (outcome_of w s (tree >>= λ tree. Some (record {
         site = record {
           core = s.core;
@@ -137,8 +143,8 @@ module _ (now : List Class) where
         code = list;
         instr = i;
       })))
-  tree_stops w s classes t thread f list i None over = tt
-  tree_stops w s classes t thread f list i (Some tree) over =
+  tree_stops w s classes t thread f list i None over stands = tt
+  tree_stops w s classes t thread f list i (Some tree) over stands =
       let site : Site = record {
         core = s.core;
         classes = classes;
@@ -148,10 +154,10 @@ module _ (now : List Class) where
         pool = tree.pool;
         next = unwrap_or (following list f.pc) 65535;
       } in
-      effect_fits now (behind_instruction w s) site list i over
+      effect_fits now site over stands (behind_instruction w s) list i
 
   instr_stops : (w : World) (s : State) (classes : List Class) (t : ThreadNo) (thread : Thread) (f : MethodFrame) (list : List (ℕ × Instr))
-      (i : Option Instr) → IsOver now classes
+      (i : Option Instr) → IsOver now classes → Stands s.core t thread f
       → FitsOutcome now (outcome_of w s (i >>= λ i. tree_of_frame w.job w.turns s.trace s.core.classes f >>= λ tree. Some (record {
         site = record {
           core = s.core;
@@ -165,12 +171,12 @@ module _ (now : List Class) where
         code = list;
         instr = i;
       })))
-  instr_stops w s classes t thread f list None over = tt
-  instr_stops w s classes t thread f list (Some i) over =
-      tree_stops w s classes t thread f list i (tree_of_frame w.job w.turns s.trace s.core.classes f) over
+  instr_stops w s classes t thread f list None over stands = tt
+  instr_stops w s classes t thread f list (Some i) over stands =
+      tree_stops w s classes t thread f list i (tree_of_frame w.job w.turns s.trace s.core.classes f) over stands
 
   code_stops : (w : World) (s : State) (classes : List Class) (t : ThreadNo) (thread : Thread) (f : MethodFrame) (list : Option (List (ℕ × Instr)))
-      → IsOver now classes
+      → IsOver now classes → Stands s.core t thread f
       → FitsOutcome now (outcome_of w s (list >>= λ list. instr_at list f.pc >>= λ i. tree_of_frame w.job w.turns s.trace s.core.classes f >>= λ tree.
       Some (record {
         site = record {
@@ -185,15 +191,16 @@ module _ (now : List Class) where
         code = list;
         instr = i;
       })))
-  code_stops w s classes t thread f None over = tt
-  code_stops w s classes t thread f (Some list) over = instr_stops w s classes t thread f list (instr_at list f.pc) over
+  code_stops w s classes t thread f None over stands = tt
+  code_stops w s classes t thread f (Some list) over stands =
+      instr_stops w s classes t thread f list (instr_at list f.pc) over stands
 
-  stop_fits : (w : World) (s : State) (classes : List Class) (t : ThreadNo) (thread : Thread) (f : MethodFrame) → IsOver now classes
-      → FitsOutcome now (outcome_of w s (stop_of w s classes t thread f))
-  stop_fits w s classes t thread f over = code_stops w s classes t thread f (code w.job w.turns s.trace s.core.classes f) over
+  pub stop_fits : (w : World) (s : State) (classes : List Class) (t : ThreadNo) (thread : Thread) (f : MethodFrame) → IsOver now classes
+      → Stands s.core t thread f → FitsOutcome now (outcome_of w s (stop_of w s classes t thread f))
+  stop_fits w s classes t thread f over stands = code_stops w s classes t thread f (code w.job w.turns s.trace s.core.classes f) over stands
 
   -- what announces an instruction fits in both ways
-  announced_fits : (w : World) (s : State) (classes : List Class) (t : ThreadNo) (f : MethodFrame) (stop : Option Stop) (a : Announced)
+  pub announced_fits : (w : World) (s : State) (classes : List Class) (t : ThreadNo) (f : MethodFrame) (stop : Option Stop) (a : Announced)
       → Fit (announcing w s classes t f stop a)
   announced_fits w s classes t f stop Yes = tt
   announced_fits w s classes t f stop New = (tt, events_raised now (pre_events w s classes t f stop))
@@ -222,34 +229,38 @@ module _ (now : List Class) where
   performs_with calls first (Some acts) h k gives = performed_by calls first acts h (joined_fit first acts h k (gives acts refl))
 
   executes_fit : (w : World) (s : State) (classes : List Class) (t : ThreadNo) (thread : Thread) (f : MethodFrame) → IsOrderly w → IsOver now classes
-      → Gives (executes w s classes t thread f)
-  executes_fit w s classes t thread f plain over =
+      → thread_at s.core t ≡ Some thread → IsOf thread (Executes f) → Gives (executes w s classes t thread f)
+  executes_fit w s classes t thread f plain over found is =
       let stop = stop_of w s classes t thread f in
       let first = announcing w s classes t f stop f.announced in
       let then_state = announced_state w s t first in
       let o = outcome_of w then_state (stop_of w then_state classes t thread (announced f)) in
       performs_with (has_calls then_state.core (actors.Thread t)) first (resolved w then_state classes t o)
       (announced_fits w s classes t f stop f.announced) (announced_calls w s classes t f stop f.announced)
-      (resolved_fits now w then_state classes t o plain (stop_fits w then_state classes t thread (announced f) over))
+      (resolved_fits now w then_state classes t o plain (stop_fits w then_state classes t thread (announced f) over
+      (announced_stands w s classes t thread found f is.0 is.1 stop f.announced refl)))
+
+  stack_is : (s : State) (t : ThreadNo) (thread : Thread) → thread_at s.core t ≡ Some thread → frames_at s.core t ≡ thread.frames
+  stack_is s t thread found = ap (λ (x : Option Thread). option_map_or (λ u. u.frames) x []) found
 
   -- ---- what each rule does
 
   rule_fits : (w : World) (s : State) (classes : List Class) (t : ThreadNo) (thread : Thread) (rule : ThreadRule) → IsOrderly w → IsOver now classes
-      → Gives (rule_acts w s classes t thread rule)
-  rule_fits w s classes t thread (Performs p) plain over =
+      → thread_at s.core t ≡ Some thread → IsOf thread rule → Gives (rule_acts w s classes t thread rule)
+  rule_fits w s classes t thread (Performs p) plain over found is =
       calls_fit now (performs w s (actors.Thread t) (queued (actors.Thread t) p))
       (performed_fit w s (actors.Thread t) (queued (actors.Thread t) p) plain tt)
-  rule_fits w s classes t thread Begins plain over = events_fit now (begins t) (tt, (tt, tt))
-  rule_fits w s classes t thread (Unwinds o f) plain over = events_fit now (unwinds w s classes t f o) (unwinds_fit w s classes t f o)
-  rule_fits w s classes t thread (Wakes object) plain over = wakes_fit w s classes t thread object
-  rule_fits w s classes t thread (Joins of) plain over = joins_fit w s classes t thread of
-  rule_fits w s classes t thread (Stays object) plain over = none_fits now
-  rule_fits w s classes t thread (Initializes n) plain over = progress_fits now s classes t n over
-  rule_fits w s classes t thread (Executes f) plain over = executes_fit w s classes t thread f plain over
-  rule_fits w s classes t thread EntersMethod plain over =
+  rule_fits w s classes t thread Begins plain over found is = events_fit now (begins t) (tt, (tt, tt))
+  rule_fits w s classes t thread (Unwinds o f) plain over found is = events_fit now (unwinds w s classes t f o) (unwinds_fit w s classes t f o)
+  rule_fits w s classes t thread (Wakes object) plain over found is = raises_fit now (wakes w s classes t thread object) (wakes_fit w s classes t thread object)
+  rule_fits w s classes t thread (Joins of) plain over found is = raises_fit now (joins w s classes t thread of) (joins_fit w s classes t thread of)
+  rule_fits w s classes t thread (Stays object) plain over found is = none_fits now
+  rule_fits w s classes t thread (Initializes n) plain over found is = raises_fit now (progress_step s classes t n) (progress_fits now s classes t n over)
+  rule_fits w s classes t thread (Executes f) plain over found is = executes_fit w s classes t thread f plain over found is
+  rule_fits w s classes t thread EntersMethod plain over found is =
       resolved_fits now w s classes t (entry_outcome s.core classes t thread w.job.main) plain
-      (entry_fits now s.core classes t thread w.job.main over)
-  rule_fits w s classes t thread Ends plain over = events_fit now (ends_thread t) (tt, (tt, tt))
+      (entry_fits now s.core classes t thread w.job.main over is (stack_is s t thread found ∙ is))
+  rule_fits w s classes t thread Ends plain over found is = events_fit now (ends_thread t) (tt, (tt, tt))
 
   -- ---- the machine itself
 
@@ -279,10 +290,14 @@ module _ (now : List Class) where
 
 pub steps_fit : (w : World) (s : State) (actor : Actor) → IsOrderly w → (acts : List Act) → next_acts w s actor ≡ Some acts
     → StepFits (classes_now w s) acts
-steps_fit w s Vm plain = machine_fits (classes_now w s) w s (next_call w s Vm) plain (queued_takes Vm (waiting_call s.core Vm))
+steps_fit w s Vm plain =
+    machine_fits (classes_now w s) w s (next_call w s Vm) plain
+    (queued_takes (λ c. FitsCall (Changes c)) (λ a. tt) (λ e. tt) Vm (waiting_call s.core Vm))
 steps_fit w s (actors.Thread t) plain =
     let now = classes_now w s in
-    bind_fits now (thread_at s.core t) (thread_acts_of w s now t) (λ thread.
-    bind_fits now (rule_of s t thread) (rule_acts w s now t thread) (λ rule. rule_fits now w s now t thread rule plain (λ m body is. is)))
+    bind_fits now (thread_at s.core t) (thread_acts_of w s now t) (λ thread found.
+    bind_fits now (rule_of s t thread) (rule_acts w s now t thread) (λ rule is.
+    rule_fits now w s now t thread rule plain (λ m body has. has) found (rule_is_of thread s t rule is)))
 steps_fit w s (Agent env) plain =
-    agent_fits (classes_now w s) w s env (next_call w s (Agent env)) plain (agent_takes w s env (agent_at w.job env))
+    agent_fits (classes_now w s) w s env (next_call w s (Agent env)) plain
+    (agent_takes (λ c. FitsCall (Changes c)) (λ a. tt) (λ e. tt) w s env (agent_at w.job env))

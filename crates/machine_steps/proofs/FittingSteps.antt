@@ -3,7 +3,8 @@
 use Rattle.base_set.specs.BaseSet.{base_set}
 use Rattle.class_tree.specs.Ranges.{are_bytes}
 use Rattle.class_tree.specs.declared.body.Code.{Code}
-use Rattle.instruction_effect.proofs.FittingForms.{AllFit, Fits, FitsOutcome, IsOver}
+use Rattle.instruction_effect.proofs.FittingForms.{AllFit, Fits, FitsOutcome}
+use Rattle.instruction_effect.proofs.FollowingForms.{IsOver}
 use Rattle.instruction_effect.specs.Arguments.{frame_of, is_deep, is_refused, newest_body}
 use Rattle.instruction_effect.specs.Outcomes.{Fills, Goes, NeedsInit, NeedsLink, NeedsLoad, Outcome, Throws, ThrowsObject, heap_has_room, makes_announced}
 use Rattle.java_heap.specs.Heaps.{HeapValue, literal_of, next_number}
@@ -15,17 +16,16 @@ use Rattle.jv_names.specs.Names.{Name}
 use Rattle.link_versions.specs.Classes.{Class}
 use Rattle.machine_state.specs.Acts.{Act, AddsClass, Changes, EntersInitializer, Fails, Makes, Notes, Pushes, PushesInit, SetsActivity, SetsClass, SetsPhase, State, core_after, raises}
 use Rattle.machine_state.specs.Chains.{rules_do, chain}
-use Rattle.machine_state.specs.Core.{Core, MethodFrame, Pending, failure_of, frames_at, script_place}
+use Rattle.machine_state.specs.Core.{Core, MethodFrame, failure_of, frames_at}
 use Rattle.agent_types.specs.declared.call.Call.{Call}
-use Rattle.agent_types.specs.declared.agent.ScriptCall.{ScriptCall}
-use Rattle.machine_state.specs.Jobs.{File, Job, at_number}
+use Rattle.machine_state.specs.Jobs.{File, Job}
 use Rattle.machine_state.specs.Bytes.{HasBytes}
 use Rattle.machine_state.specs.Linked.{tree_of}
-use Rattle.machine_state.specs.Logs.{log}
 use Rattle.machine_state.specs.Trace.{ClassLoad, Event, Exception, LoadFailed, Loaded, Started, VMObjectAlloc, VMStart}
-use Rattle.machine_steps.specs.Actors.{adds_base, agent_call, makes_first, may_script, script_call, starts, when_logged}
+use Rattle.machine_steps.proofs.NextTakes.{Takes}
+use Rattle.machine_steps.specs.Actors.{adds_base, makes_first, starts}
 use Rattle.ti_codes.specs.declared.error.ErrorCode.{ErrorCode}
-use Rattle.machine_steps.specs.Calls.{NextCall, answer_to, performs, queued, queued_call, refusal_of, refused, reply, scripted, taken, waiting_call}
+use Rattle.machine_steps.specs.Calls.{NextCall, answer_to, performs, refusal_of, refused, reply, taken}
 use Rattle.machine_steps.specs.Initializing.{Constant, Constants, Is, Text, begins_init, begins_with, constants_at, constants_made, ends_init, enters_initializer, enters_or_ends, init_step, init_step_in, init_supers, initializer, must_begin, no_constants, overflow_name, progress_step, pushes_initializer, set_to, set_to_new, state_of_class, string_at, string_name, was_entered, with_string}
 use Rattle.machine_steps.specs.Linking.{link_step, links_checked, links_in, next_link, passes_check, verify_name}
 use Rattle.machine_steps.specs.Loading.{Load, Loads, Met, Refuses, Repeats, bytes_given, is_accepted, load_ends, load_step, loads, next_load, turn_notes, turns_from}
@@ -38,11 +38,11 @@ use Rattle.machine_steps.specs.Throwing.{base_number, class_name_of, exception_r
 use Rattle.machine_steps.specs.World.{World, Answer}
 use Rattle.std.proofs.Common.{Bool, List, None, Option, Some, [], cond, false, inl, inr, length, map, refl, subst, true, ℕ, ◌++◌, ◌+◌, ◌∷◌, ◌≡◌, ◌⊎◌}
 use Rattle.std.specs.List.{AllByRecursion}
-use Rattle.std.specs.Option.{option_map_or, option_or}
-use Rattle.std.specs.Prelude.{bytes_eq, codes, find, nat_le, option_map, unwrap_or}
+use Rattle.std.specs.Option.{option_map_or}
+use Rattle.std.specs.Prelude.{bytes_eq, codes, find, option_map, unwrap_or}
 use Rattle.ti_ids.specs.Maybe.{◌>>=◌}
 use Rattle.ti_ids.specs.declared.actor.Actor.{Actor}
-use Rattle.ti_ids.specs.declared.actor.Actor.TheVariants.{Agent, Thread}
+use Rattle.ti_ids.specs.declared.actor.Actor.TheVariants.{Thread}
 use Rattle.ti_ids.specs.declared.number.ClassNo.{ClassNo}
 use Rattle.ti_ids.specs.declared.number.EnvNo.{EnvNo}
 use Rattle.ti_ids.specs.declared.number.MethodNo.{MethodNo}
@@ -55,7 +55,6 @@ use Rattle.ti_ids.specs.declared.value.Value.{Value}
 use Rattle.transform_chain.specs.Turns.{fold_from}
 use Rattle.transform_chain.specs.declared.folded.Turn.{Turn}
 use Rattle.ti_ids.specs.declared.actor.Actor.TheVariants as actors
-use Rattle.agent_types.specs.declared.agent.Agent as agent_type
 use Rattle.ti_codes.specs.declared.phase.Phase.TheVariants as phases
 use Rattle.ti_ids.specs.declared.state.InitState.TheVariants as states
 
@@ -63,7 +62,7 @@ pub append_all : {A : Type 0} (P : A → Type 0) (xs ys : List A) → AllByRecur
 append_all P [] ys h k = k
 append_all P (x ∷ xs) ys h k = (h.0, append_all P xs ys h.1 k)
 
-all_if : {A : Type 0} (P : A → Type 0) (b : Bool) (xs ys : List A) → AllByRecursion P xs → AllByRecursion P ys → AllByRecursion P (cond b xs ys)
+pub all_if : {A : Type 0} (P : A → Type 0) (b : Bool) (xs ys : List A) → AllByRecursion P xs → AllByRecursion P ys → AllByRecursion P (cond b xs ys)
 all_if P true xs ys h k = h
 all_if P false xs ys h k = k
 
@@ -88,7 +87,7 @@ module _ (P : Act → Type 0) (sets : (t : ThreadNo) (a : Activity) → P (Chang
   abbrev Each : List Act → Type 0
   Each acts = AllByRecursion P acts
 
-  all_raised : (events : List Event) → Each (map raises events)
+  pub all_raised : (events : List Event) → Each (map raises events)
   all_raised [] = tt
   all_raised (e ∷ events) = (raised e, all_raised events)
 
@@ -96,7 +95,7 @@ module _ (P : Act → Type 0) (sets : (t : ThreadNo) (a : Activity) → P (Chang
   exception_fit classes t class None = tt
   exception_fit classes t class (Some f) = (raised (Exception t (place_of classes f) class), tt)
 
-  among_fit : (classes : List Class) (core : Core) (t : ThreadNo) (before events : List Act) (o : ObjNo) (class : Name) → Each before → Each events
+  pub among_fit : (classes : List Class) (core : Core) (t : ThreadNo) (before events : List Act) (o : ObjNo) (class : Name) → Each before → Each events
       → Each (throws_among classes core t before events o class)
   among_fit classes core t before events o class h k =
       append_all P (before ++ Changes (SetsActivity t (Throwing o)) ∷ events)
@@ -104,11 +103,11 @@ module _ (P : Act → Type 0) (sets : (t : ThreadNo) (a : Activity) → P (Chang
       (append_all P before (Changes (SetsActivity t (Throwing o)) ∷ events) h (sets t (Throwing o), k))
       (exception_fit classes t class (top_method (frames_at (core_after 0 core before) t)))
 
-  throws_fit : (classes : List Class) (core : Core) (t : ThreadNo) (before : List Act) (o : ObjNo) (class : Name) → Each before
+  pub throws_fit : (classes : List Class) (core : Core) (t : ThreadNo) (before : List Act) (o : ObjNo) (class : Name) → Each before
       → Each (throws classes core t before o class)
   throws_fit classes core t before o class h = among_fit classes core t before [] o class h tt
 
-  new_among_fit : (classes : List Class) (core : Core) (t : ThreadNo) (before events : List Act) (name : Name) → Each before → Each events
+  pub new_among_fit : (classes : List Class) (core : Core) (t : ThreadNo) (before events : List Act) (name : Name) → Each before → Each events
       → Each (throws_new_among classes core t before events name)
   new_among_fit classes core t before events name h k =
       let heap = (core_after 0 core before).heap in
@@ -119,7 +118,7 @@ module _ (P : Act → Type 0) (sets : (t : ThreadNo) (a : Activity) → P (Chang
       (among_fit classes core t (before ++ making) events (next_number heap) name (append_all P before making h made) k)
       (among_fit classes core t before events kept_error full_name h k)
 
-  new_fit : (classes : List Class) (core : Core) (t : ThreadNo) (before : List Act) (name : Name) → Each before
+  pub new_fit : (classes : List Class) (core : Core) (t : ThreadNo) (before : List Act) (name : Name) → Each before
       → Each (throws_new classes core t before name)
   new_fit classes core t before name h = new_among_fit classes core t before [] name h tt
 
@@ -130,34 +129,7 @@ AllCall acts = AllByRecursion FitsCall acts
 
 -- the change that takes a call fits
 abbrev pub TakesFit : Option NextCall → Type 0
-TakesFit next = (c : NextCall) → next ≡ Some c → FitsCall (Changes c.take)
-
-pub queued_takes : (actor : Actor) (p : Option Pending) → TakesFit (option_map (queued actor) p)
-queued_takes actor None c is = absurd cc
-queued_takes actor (Some p) c is = let same : queued actor p ≡ c = cc in subst (λ (x : NextCall). FitsCall (Changes x.take)) same tt
-
-or_takes : (a b : Option NextCall) → TakesFit a → TakesFit b → TakesFit (option_or a b)
-or_takes None b h k = k
-or_takes (Some x) b h k = h
-
-if_takes : (b : Bool) (a : Option NextCall) → TakesFit a → TakesFit (cond b a None)
-if_takes true a h c is = h c is
-if_takes false a h c is = absurd cc
-
-scripted_takes : (env : EnvNo) (call : Call) → TakesFit (Some (scripted env call))
-scripted_takes env call c is = let same : scripted env call ≡ c = cc in subst (λ (x : NextCall). FitsCall (Changes x.take)) same tt
-
-script_takes : (w : World) (s : State) (env : EnvNo) (call : Option ScriptCall) → TakesFit (call >>= when_logged w s env)
-script_takes w s env None c is = absurd cc
-script_takes w s env (Some call) c is =
-    if_takes (nat_le call.at (length (log w.job s.trace env))) (Some (scripted env call.call)) (scripted_takes env call.call) c is
-
-pub agent_takes : (w : World) (s : State) (env : EnvNo) (agent : Option agent_type.Agent) → TakesFit (agent >>= agent_call w s env)
-agent_takes w s env None c is = absurd cc
-agent_takes w s env (Some agent) c is =
-    if_takes (may_script s env) (option_or (queued_call s.core (Agent env)) (script_call w s env agent))
-    (or_takes (queued_call s.core (Agent env)) (script_call w s env agent) (queued_takes (Agent env) (waiting_call s.core (Agent env)))
-    (script_takes w s env (at_number agent.script (script_place s.core env + 1)))) c is
+TakesFit next = Takes (λ c. FitsCall (Changes c)) next
 
 answered_fit : (w : World) (s : State) (env : EnvNo) (call : Call) (actor : Actor) (refusal : Option ErrorCode) → IsOrderly w
     → AllCall (elim refusal as (λ _. Answer) [ Some code ↦ refused code | None ↦ w.answers s env call actor ]).acts
@@ -209,9 +181,22 @@ module _ (now : List Class) where
   pub none_fits : Gives None
   none_fits acts is = absurd cc
 
-  pub bind_fits : {A : Type 0} (o : Option A) (f : A → Option (List Act)) → ((x : A) → Gives (f x)) → Gives (o >>= f)
+  -- those that an answer gives record events alone
+  abbrev pub Raises : Option (List Act) → Type 0
+  Raises next = (acts : List Act) → next ≡ Some acts → Fit acts
+
+  pub raises_fit : (next : Option (List Act)) → Raises next → Gives next
+  raises_fit next h acts is = inl (h acts is)
+
+  pub some_raises : (acts : List Act) → Fit acts → Raises (Some acts)
+  some_raises acts h other is = let same : acts ≡ other = cc in subst Fit same h
+
+  pub none_raises : Raises None
+  none_raises acts is = absurd cc
+
+  pub bind_fits : {A : Type 0} (o : Option A) (f : A → Option (List Act)) → ((x : A) → o ≡ Some x → Gives (f x)) → Gives (o >>= f)
   bind_fits None f h acts is = absurd cc
-  bind_fits (Some x) f h acts is = h x acts is
+  bind_fits (Some x) f h acts is = h x refl acts is
 
   pub new_fits : (classes : List Class) (core : Core) (t : ThreadNo) (before : List Act) (name : Name) → Fit before
       → Fit (throws_new classes core t before name)
@@ -225,7 +210,7 @@ module _ (now : List Class) where
   pub events_raised : (events : List Event) → Fit (map raises events)
   events_raised events = all_raised (Fits now) (λ t a. tt) (λ o. tt) (λ e. tt) events
 
-  thrown_fits : (classes : List Class) (core : Core) (t : ThreadNo) (before : List Act) (o : ObjNo) (class : Name) → Fit before
+  pub thrown_fits : (classes : List Class) (core : Core) (t : ThreadNo) (before : List Act) (o : ObjNo) (class : Name) → Fit before
       → Fit (throws classes core t before o class)
   thrown_fits classes core t before o class h = throws_fit (Fits now) (λ t a. tt) (λ o. tt) (λ e. tt) classes core t before o class h
 
@@ -271,7 +256,7 @@ module _ (now : List Class) where
   links_fit w s classes t n name (Some error) = new_fits classes s.core t [] error tt
   links_fit w s classes t n name None = checked_fits s classes t n name (passes_check w classes n)
 
-  link_fits : (w : World) (s : State) (classes : List Class) (t : ThreadNo) (n : ClassNo) → Fit (link_step w s classes t n)
+  pub link_fits : (w : World) (s : State) (classes : List Class) (t : ThreadNo) (n : ClassNo) → Fit (link_step w s classes t n)
   link_fits w s classes t n =
       let m = next_link classes n in links_fit w s classes t m (name_of classes m) (failure_of s.core (name_of classes m))
 
@@ -323,18 +308,18 @@ module _ (now : List Class) where
       (new_fits classes s.core t made.makes overflow_name h.makes)
       (append_all (Fits now) (made.makes ++ made.sets) pushing (append_all (Fits now) made.makes made.sets h.makes h.sets) (tt, (tt, tt))))
 
-  init_in_fits : (s : State) (classes : List Class) (t : ThreadNo) (n : ClassNo) (state : InitState) → Gives (init_step_in s classes t n state)
+  init_in_fits : (s : State) (classes : List Class) (t : ThreadNo) (n : ClassNo) (state : InitState) → Raises (init_step_in s classes t n state)
   init_in_fits s classes t n states.Linked =
-      events_fit (begins_init s classes t n)
+      some_raises (begins_init s classes t n)
       (begins_fit s classes t n (constants_made t n s.core.heap (constants_at classes n)) (constants_fit t n s.core.heap (constants_at classes n)))
   init_in_fits s classes t n states.Erroneous =
-      events_fit (throws_new classes s.core t [] (codes "java/lang/NoClassDefFoundError"))
+      some_raises (throws_new classes s.core t [] (codes "java/lang/NoClassDefFoundError"))
       (new_fits classes s.core t [] (codes "java/lang/NoClassDefFoundError") tt)
-  init_in_fits s classes t n states.Loaded = none_fits
-  init_in_fits s classes t n (states.InProgress by) = none_fits
-  init_in_fits s classes t n states.Initialized = none_fits
+  init_in_fits s classes t n states.Loaded = none_raises
+  init_in_fits s classes t n (states.InProgress by) = none_raises
+  init_in_fits s classes t n states.Initialized = none_raises
 
-  init_fits : (s : State) (classes : List Class) (t : ThreadNo) (n : ClassNo) → Gives (init_step s classes t n)
+  pub init_fits : (s : State) (classes : List Class) (t : ThreadNo) (n : ClassNo) → Raises (init_step s classes t n)
   init_fits s classes t n = init_in_fits s classes t n (state_of_class classes n)
 
   body_fits : (s : State) (classes : List Class) (t : ThreadNo) (n : ClassNo) (m : MethodNo) (body : Option Code) → newest_body classes m ≡ body
@@ -353,20 +338,20 @@ module _ (now : List Class) where
       (body_fits s classes t n m (newest_body classes m) refl over)
 
   progress_by : (s : State) (classes : List Class) (t : ThreadNo) (n : ClassNo) (next : Option ClassNo) → IsOver now classes
-      → Gives (elim next as (λ _. Option (List Act)) [
+      → Raises (elim next as (λ _. Option (List Act)) [
         | Some m ↦ init_step s classes t m
         | None ↦ Some (enters_or_ends s classes t n (initializer classes n))
       ])
   progress_by s classes t n (Some m) over = init_fits s classes t m
   progress_by s classes t n None over =
-      events_fit (enters_or_ends s classes t n (initializer classes n)) (enters_fits s classes t n (initializer classes n) over)
+      some_raises (enters_or_ends s classes t n (initializer classes n)) (enters_fits s classes t n (initializer classes n) over)
 
-  pub progress_fits : (s : State) (classes : List Class) (t : ThreadNo) (n : ClassNo) → IsOver now classes → Gives (progress_step s classes t n)
+  pub progress_fits : (s : State) (classes : List Class) (t : ThreadNo) (n : ClassNo) → IsOver now classes → Raises (progress_step s classes t n)
   progress_fits s classes t n over = progress_by s classes t n (find (must_begin classes t) (init_supers classes n)) over
 
   -- ---- outcomes
 
-  wish_fits : (t : ThreadNo) (activity : Activity) → Fit (wish_ends t activity)
+  pub wish_fits : (t : ThreadNo) (activity : Activity) → Fit (wish_ends t activity)
   wish_fits t (Wanting wanted) = (tt, tt)
   wish_fits t Free = tt
   wish_fits t (Throwing o) = tt
@@ -387,4 +372,4 @@ module _ (now : List Class) where
       (thrown_fits classes s.core t [] o (class_name_of classes s.core o) tt)
   resolved_fits w s classes t (NeedsLoad name) plain h = load_fits w s classes t (next_load w s.core classes name) plain
   resolved_fits w s classes t (NeedsLink n) plain h = events_fit (link_step w s classes t n) (link_fits w s classes t n)
-  resolved_fits w s classes t (NeedsInit n) plain h = init_fits s classes t n
+  resolved_fits w s classes t (NeedsInit n) plain h = raises_fit (init_step s classes t n) (init_fits s classes t n)

@@ -49,7 +49,7 @@ if_by t k false is e = (cc, by t.dimensions is)
     by zero is = absurd cc
     by (suc n) is = omega arith
 
-array_named : (name : Name) (k : FieldType) → array_type name ≡ Some k → IsArrayName name k
+pub array_named : (name : Name) (k : FieldType) → array_type name ≡ Some k → IsArrayName name k
 array_named name k e = by (read_field name) refl e
   where
     of_type : (t : AnyType) (kept : Option FieldType) → kept_type t ≡ kept → read_field name ≡ Some t → option_and_then if_array kept ≡ Some k
@@ -95,7 +95,7 @@ module _ (older : List Class) where
 
 module _ (job : Job) (turns : Turns) (trace : Trace) where
   -- a class by its array type, if it has one, and its trees
-  abbrev linked_by : List Class → CoreClass → Option FieldType → List Tree → Class
+  abbrev pub linked_by : List Class → CoreClass → Option FieldType → List Tree → Class
   linked_by older c type ts = elim type as (λ _. Class) [
     | Some t ↦ record (array_class (number_of older) c.name t) { state = c.state }
     | None ↦ class_of_trees job turns (number_of older) c ts
@@ -120,7 +120,7 @@ module _ (job : Job) (turns : Turns) (trace : Trace) where
   absent name (c ∷ older) h =
       rw (linked_name job turns trace (number_of (linked job turns trace older)) c, h.0) (absent name older h.1)
 
-  linked_placed : (classes : List CoreClass) → IsDistinct bytes_eq (map (λ c. c.name) classes) → ArePlaced (linked job turns trace classes)
+  pub linked_placed : (classes : List CoreClass) → IsDistinct bytes_eq (map (λ c. c.name) classes) → ArePlaced (linked job turns trace classes)
   unfolding linked
   linked_placed [] h = tt
   linked_placed (c ∷ older) h =

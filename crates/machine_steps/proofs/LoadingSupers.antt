@@ -21,18 +21,18 @@ use Rattle.ti_ids.specs.declared.number.ClassNo.{ClassNo}
 
 -- ---- names in a list
 
-abbrev IsIn : Name → List Name → Type 0
+abbrev pub IsIn : Name → List Name → Type 0
 IsIn x [] = ⊥
 IsIn x (y ∷ ys) = (x ≡ y) ⊎ IsIn x ys
 
-same_true : (x : Name) → bytes_eq x x ≡ true
+pub same_true : (x : Name) → bytes_eq x x ≡ true
 same_true x = (bytes_eq-Decides x x).1 refl
 
 or_true : (a b : Bool) → b ≡ true → (a || b) ≡ true
 or_true true b e = refl
 or_true false b e = e
 
-in_any : (x : Name) (ys : List Name) → IsIn x ys → list_any (bytes_eq x) ys ≡ true
+pub in_any : (x : Name) (ys : List Name) → IsIn x ys → list_any (bytes_eq x) ys ≡ true
 in_any x [] h = absurd h
 in_any x (y ∷ ys) (inl same) = rw (sym same, same_true x) refl
 in_any x (y ∷ ys) (inr h) = or_true (bytes_eq x y) (list_any (bytes_eq x) ys) (in_any x ys h)
@@ -42,7 +42,7 @@ in_first x [] ys h = absurd h
 in_first x (z ∷ xs) ys (inl same) = inl same
 in_first x (z ∷ xs) ys (inr h) = inr (in_first x xs ys h)
 
-in_second : (x : Name) (xs ys : List Name) → IsIn x ys → IsIn x (xs ++ ys)
+pub in_second : (x : Name) (xs ys : List Name) → IsIn x ys → IsIn x (xs ++ ys)
 in_second x [] ys h = h
 in_second x (z ∷ xs) ys h = inr (in_second x xs ys h)
 
@@ -210,7 +210,7 @@ find_in name (g ∷ files) f e = by (bytes_eq g.name name) refl e (find_in name 
     by false is e rest = inr (rest e)
 
 module _ (classes : List Class) where
-  base_there : (name : Name) (bases : List BaseClass) (c : BaseClass) → AllByRecursion (λ c. IsSome (number_of classes c.name)) bases
+  pub base_there : (name : Name) (bases : List BaseClass) (c : BaseClass) → AllByRecursion (λ c. IsSome (number_of classes c.name)) bases
       → find (has_name name) bases ≡ Some c → IsSome (number_of classes name)
   base_there name [] c h e = absurd cc
   base_there name (b ∷ bases) c h e = by (has_name name b) refl e (base_there name bases c h.1)
@@ -220,7 +220,7 @@ module _ (classes : List Class) where
       by true is e rest = subst (λ (n : Name). IsSome (number_of classes n)) (sym ((bytes_eq-Decides name b.name).0 is)) h.0
       by false is e rest = rest e
 
-  none_there : (name : Name) → number_of classes name ≡ None → IsSome (number_of classes name) → ⊥
+  pub none_there : (name : Name) → number_of classes name ≡ None → IsSome (number_of classes name) → ⊥
   none_there name absent there = by (number_of classes name) absent there
     where
       by : (found : Option ClassNo) → found ≡ None → IsSome found → ⊥

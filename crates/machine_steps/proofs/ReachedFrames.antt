@@ -5,25 +5,23 @@ use Rattle.link_versions.specs.Classes.{Class}
 use Rattle.machine_state.proofs.QuietRecords.{IsQuiet}
 use Rattle.machine_state.specs.Acts.{Act, Change, Changes, MakesThread, Notes, Pops, Pushes, PushesInit, SetsActivity, SetsState, SetsTop, State, acted, born_at, changed, going_on, new_thread, raises, with_born}
 use Rattle.machine_state.specs.Bytes.{AllHoldBytes, HoldsBytes}
-use Rattle.machine_state.specs.Core.{Core, CoreClass, MethodFrame, StackFrame, Thread, is_of_classes, most_threads, with_thread}
+use Rattle.machine_state.specs.Core.{CoreClass, Core, MethodFrame, StackFrame, Thread, is_of_classes, most_threads}
 use Rattle.machine_state.specs.FrameCode.{code}
-use Rattle.machine_state.specs.Jobs.{at_number}
 use Rattle.machine_state.specs.Laws.{IsBorn}
 use Rattle.machine_state.specs.Trace.{Entry, Event, Raised, Record, Trace}
+use Rattle.machine_steps.proofs.ChangedThreads.{with_each}
 use Rattle.machine_steps.proofs.FittingSteps.{append_all}
 use Rattle.machine_steps.specs.Laws.{AreBorn, WasBorn}
 use Rattle.machine_steps.specs.Reachable.{FitsCall}
 use Rattle.machine_steps.specs.Replay.{state, step}
 use Rattle.machine_steps.specs.World.{World}
 use Rattle.class_code.specs.declared.instr.Instr.{Instr}
-use Rattle.std.proofs.Common.{append-nil, append_assoc, Bool, List, None, Option, Some, [], arith, cond, drop, false, length, refl, subst, suc, sym, true, zero, ℕ, ◌++◌, ◌-◌, ◌∙◌, ◌∷◌, ◌≡◌}
+use Rattle.std.proofs.Common.{append-nil, append_assoc, Bool, List, Option, [], cond, drop, false, length, refl, subst, sym, true, ℕ, ◌++◌, ◌∙◌, ◌∷◌, ◌≡◌}
 use Rattle.std.specs.List.{AllByRecursion}
-use Rattle.std.specs.Option.{option_map_or}
-use Rattle.std.specs.Prelude.{IsSome, fold, nat_le, slice_get, slice_set}
+use Rattle.std.specs.Prelude.{IsSome, fold, nat_le}
 use Rattle.thread_frames.specs.declared.frame.StackEntry.TheVariants.{Init, Java}
 use Rattle.ti_ids.specs.declared.actor.Actor.{Actor}
 use Rattle.ti_ids.specs.declared.number.ObjNo.{ObjNo}
-use Rattle.ti_ids.specs.declared.number.ThreadNo.{ThreadNo}
 
 -- ---- a frame that was there
 
@@ -51,26 +49,6 @@ module _ (w : World) (s : State) (after : State) (stays : (f : MethodFrame) → 
       → ThreadsCoded w after.trace after.core.classes threads
   threads_stay [] born coded = tt
   threads_stay (t ∷ threads) born coded = (frames_stay t.frames born.0 coded.0, threads_stay threads born.1 coded.1)
-
--- ---- threads of which one is changed
-
-set_each : (P : Thread → Type 0) (threads : List Thread) (k : ℕ) (change : Thread → Thread) (found : Option Thread) → slice_get threads k ≡ found
-    → ((t : Thread) → P t → P (change t)) → AllByRecursion P threads
-    → AllByRecursion P (option_map_or (λ t. slice_set threads k (change t)) found threads)
-set_each P threads k change None e keep h = h
-set_each P [] k change (Some t) e keep h = absurd cc
-set_each P (u ∷ threads) zero change (Some t) e keep h = let same : u ≡ t = cc in (keep t (subst P same h.0), h.1)
-set_each P (u ∷ threads) (suc k) change (Some t) e keep h = (h.0, set_each P threads k change (Some t) e keep h.1)
-
-with_each : (P : Thread → Type 0) (core : Core) (t : ThreadNo) (change : Thread → Thread) → ((u : Thread) → P u → P (change u))
-    → AllByRecursion P core.threads → AllByRecursion P (with_thread change t core).threads
-with_each P core t change keep h = by t.0
-  where
-    by : (k : ℕ) → AllByRecursion P (option_map_or (λ thread. slice_set core.threads (k - 1) (change thread)) (at_number core.threads k) core.threads)
-    by zero = h
-    by (suc k) =
-        subst (λ (p : ℕ). AllByRecursion P (option_map_or (λ thread. slice_set core.threads p (change thread)) (slice_get core.threads k) core.threads))
-        (let same : k ≡ suc k - 1 = omega arith in same) (set_each P core.threads k change (slice_get core.threads k) refl keep h)
 
 -- ---- one change, where this trace and these classes are those after the step
 

@@ -1,7 +1,9 @@
 -- What the classes, as they are linked, are after every schedule.
-use Rattle.std.specs.Prelude.{◌≡◌, ℕ, List, [], ◌∷◌, Some, None, IfSome, IsSome, IsTrue, true}
+use Rattle.std.specs.Prelude.{◌≡◌, ℕ, ◌<◌, ◌^◌, List, [], ◌∷◌, length, Option, Some, None, IfSome, IsSome, IsTrue, true, unwrap_or}
 use Rattle.std.specs.List.{filter_map, AllByRecursion}
+use Rattle.std.specs.Option.{option_and_then}
 use Rattle.ti_ids.specs.declared.actor.Actor.{Actor}
+use Rattle.ti_ids.specs.declared.number.ClassNo.{ClassNo}
 use Rattle.jv_names.specs.Names.{Name}
 use Rattle.jv_names.specs.declared.descriptor.FieldType.{FieldType}
 use Rattle.class_tree.specs.Trees.{Tree}
@@ -10,14 +12,20 @@ use Rattle.class_tree.specs.WellFormed.{is_well_formed}
 use Rattle.base_set.specs.BaseSet.{base_set}
 use Rattle.link_versions.specs.declared.class.Element.{Element}
 use Rattle.link_versions.specs.Classes.{Class, Kind, OfFile, OfArray, number_of, versions_of}
-use Rattle.link_versions.specs.Changes.{IsThere, IsArrayName, element_by}
+use Rattle.link_versions.specs.Changes.{IsThere, IsArrayName, element_by, CanInstall, AreLawful}
 use Rattle.link_versions.specs.Subtypes.{object_name, array_interface_names}
 use Rattle.machine_state.specs.Core.{Core}
+use Rattle.machine_state.specs.Trace.{Record}
+use Rattle.machine_state.specs.Versions.{left, making, version_made}
+use Rattle.machine_state.specs.Linked.{tree_of}
+use Rattle.machine_state.specs.Acts.{State, Act, Changes, Notes, acted}
 use Rattle.machine_steps.specs.World.{World}
 use Rattle.machine_steps.specs.Loading.{next_load, Loads, supers_of, supers_in, is_accepted}
 use Rattle.machine_steps.specs.Sites.{classes_now}
 use Rattle.machine_steps.specs.Replay.{state}
-use Rattle.machine_steps.specs.Reachable.{IsOrderly}
+use Rattle.machine_steps.specs.Reachable.{IsOrderly, CallsRecord}
+use Rattle.machine_steps.specs.Calls.{NextCall, taken, answer_to}
+use Rattle.machine_steps.specs.Actors.{next_call}
 
 -- ---- the order of classes
 
@@ -88,3 +96,40 @@ AreOfTheirNames (c ∷ older) = IsOfItsNameIn older c c.kind × AreOfTheirNames 
 -- After every schedule each array class is.
 abbrev pub ArraysAreOfTheirNames : Type 0
 ArraysAreOfTheirNames = (w : World) (schedule : List Actor) → AreOfTheirNames (classes_now w (state w schedule))
+
+-- ---- the whole
+
+-- the tree of the version that a record makes of a class in a state, if it makes one
+abbrev pub tree_made : World → State → Actor → Record → Name → Option Tree
+tree_made w s actor what name =
+    let kept = unwrap_or (left w.job w.turns name s.trace) [] in
+    option_and_then (λ v. tree_of v.bytes) (version_made w.job w.turns name s.trace actor kept (making name what))
+
+-- The class is there, and the tree may be installed as a version of it.
+pub record MayInstall (classes : List Class) (name : Name) (t : Tree) : Type 0 where
+  pub number : ClassNo
+  pub there : number_of classes name ≡ Some number
+  pub can : CanInstall classes number t
+
+-- each version that these acts make, one act behind the other from this state on, may be installed
+abbrev pub InstallsOnly : World → Actor → State → List Act → Type 0
+InstallsOnly w actor s [] = Unit {0}
+InstallsOnly w actor s (Changes c ∷ acts) = InstallsOnly w actor (acted w.job actor 0 s (Changes c)) acts
+InstallsOnly w actor s (Notes what ∷ acts) =
+    ((name : Name) → IfSome (tree_made w s actor what name) (MayInstall (classes_now w s) name))
+    × InstallsOnly w actor (acted w.job actor 0 s (Notes what)) acts
+
+-- After every schedule each version that the next call makes may be installed.
+abbrev pub CallsInstall : World → Type 0
+CallsInstall w = (schedule : List Actor) (actor : Actor) (c : NextCall)
+    → let s = state w schedule in next_call w s actor ≡ Some c → InstallsOnly w actor (taken c s) (answer_to w s actor c).acts
+
+-- no class has as many versions as 32 bits number
+abbrev pub HasFewVersions : List Class → Type 0
+HasFewVersions classes = AllByRecursion (λ c. length (versions_of c.kind) < 2 ^ 32) classes
+
+-- After every schedule the classes are lawful as a whole, where files are bytes, rules make bytes of bytes, calls do what they do by records,
+-- and each version that they make may be installed; and where no class has too many versions.
+abbrev pub ClassesAreLawful : Type 0
+ClassesAreLawful = (w : World) (schedule : List Actor) → IsOrderly w → CallsRecord w → CallsInstall w
+    → let classes = classes_now w (state w schedule) in HasFewVersions classes → AreLawful classes

@@ -26,3 +26,5 @@ pub mod ReportLaws
 pub mod CheckLaws
 pub mod Reachable
 pub mod LawfulClasses
+pub mod WithinLimits
+pub mod SoundHeaps

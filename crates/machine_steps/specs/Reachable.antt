@@ -40,6 +40,15 @@ pub record IsOrderly (w : World) : Type 0 where
   pub rules : MakesBytes w.turns
   pub calls : (s : State) (env : EnvNo) (call : Call) (actor : Actor) → AllByRecursion FitsCall (w.answers s env call actor).acts
 
+-- An act of a call is a record.
+abbrev pub IsRecord : Act → Type 0
+IsRecord (Changes c) = ⊥
+IsRecord (Notes what) = Unit {0}
+
+-- What a call does it does by its records: none changes the core by itself.
+abbrev pub CallsRecord : World → Type 0
+CallsRecord w = (s : State) (env : EnvNo) (call : Call) (actor : Actor) → AllByRecursion IsRecord (w.answers s env call actor).acts
+
 -- ---- parts
 
 -- there are parts that stand for a state, with this schedule

@@ -1,8 +1,10 @@
 ghost use Rattle.machine_steps.specs.Laws.{NoneAfterEnd, HasStepLeft, SomeoneIsEnabled, CountsOne, AddsRecords, PerformsNextCall, TakesNoOtherCall, OutputGrows, ObjectsStay, FewThreads, ClassesStay, LoadsOnce, StaysFailed, FailsLoads, NamesDiffer, FramesAreBorn, CodeStays, PickedCanRun, PickedEnds, FitsLimit, NoEndBefore, StatesNamed, StatesSchedule};
 ghost use Rattle.machine_steps.specs.CheckLaws.{PassesOrFails};
 ghost use Rattle.machine_steps.specs.Reachable.{PartsOfCoded, FramesHaveCode, StatesHaveParts};
-ghost use Rattle.machine_steps.specs.LawfulClasses.{ClassesArePlaced, LoadsSupersFirst, AcceptsSameNames, VersionsAreWellFormed, ArraysAreOfTheirNames};
+ghost use Rattle.machine_steps.specs.LawfulClasses.{ClassesArePlaced, LoadsSupersFirst, AcceptsSameNames, VersionsAreWellFormed, ArraysAreOfTheirNames, ClassesAreLawful};
 ghost use Rattle.machine_steps.specs.Bounds.{TasksAreBounded, TasksHaveOwnFiles};
+ghost use Rattle.machine_steps.specs.SoundHeaps.{HeapsAreSound, ReferencesAreThere};
+ghost use Rattle.machine_steps.specs.WithinLimits.{StacksAreWithin, MonitorsAreCounted, MonitorsHaveTables};
 ghost use Rattle.machine_steps.specs.ReportLaws.{BarredExactly, PickedIsReported, WrittenIsWritten, ReplaysSame};
 
 /// Does nothing, and is there for its contract: the laws of the steps, whatever the job and its agents do.
@@ -93,6 +95,22 @@ pub fn parts_laws()
 
     // So after every schedule there are parts that stand for the state.
     ensures parts { StatesHaveParts }
+
+    // After every schedule of a job within its bounds the heap is sound, where calls do what they do by their records.
+    ensures heaps { HeapsAreSound }
+
+    // Then each reference that is held outside the heap is null or names an object that is there.
+    ensures references { ReferencesAreThere }
+
+    // After every schedule the stack of each thread is within its limits, and each operand stack within its room, where calls do what they
+    // do by their records.
+    ensures stacks { StacksAreWithin }
+
+    // Then each monitor is counted, and no object has two.
+    ensures monitors { MonitorsAreCounted }
+
+    // So a table of monitors stands for them.
+    ensures tables { MonitorsHaveTables }
 {}
 
 /// Does nothing, and is there for its contract: the laws of the classes, as they are linked.
@@ -111,6 +129,10 @@ pub fn class_laws()
 
     // Each array class is what its name says.
     ensures arrays { ArraysAreOfTheirNames }
+
+    // The classes are lawful as a whole then, as `link_versions` has it: where calls do what they do by records alone, each version that
+    // they make may be installed, and no class has too many versions.
+    ensures lawful { ClassesAreLawful }
 {}
 
 /// Does nothing, and is there for its contract: the laws of what is written.

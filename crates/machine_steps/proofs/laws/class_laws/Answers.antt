@@ -1,4 +1,5 @@
 use Rattle.machine_steps.proofs.AcceptedNames.{accepts_same_names}
+use Rattle.machine_steps.proofs.AddedArrays.{classes_are_lawful}
 use Rattle.machine_steps.proofs.LoadingSupers.{loads_supers_first}
 use Rattle.machine_steps.proofs.LawfulClasses.{arrays_are_of_their_names, classes_are_placed, versions_are_well_formed}
 use Rattle.machine_steps.proofs.laws.class_laws.Goals as goal
@@ -17,3 +18,6 @@ returns-clause-supers c = loads_supers_first
 
 pub returns-clause-accepted : goal.returns-clause-accepted
 returns-clause-accepted c = accepts_same_names
+
+pub returns-clause-lawful : goal.returns-clause-lawful
+returns-clause-lawful c = classes_are_lawful
