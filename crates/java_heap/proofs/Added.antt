@@ -1,45 +1,35 @@
 -- An object is put behind the others: the heap stays sound, and its counter and its indices stay right.
-use Rattle.std.proofs.Common.{◌≡◌, ℕ, ◌+◌, ◌≤◌, false, List, [], ◌∷◌, ◌++◌, length, refl, sym, ◌∙◌, arith}
+use Rattle.std.proofs.Common.{◌≡◌, ℕ, ◌+◌, ◌≤◌, false, List, refl, sym, ◌∙◌, arith}
 use Rattle.std.specs.Prelude.{IsTrue, IsNone}
 use Rattle.std.proofs.lemmas.Bool.{true≢false}
-use Rattle.std.proofs.lemmas.List.{length_push}
-use Rattle.std.proofs.lemmas.List.Elements.{All-weaker, All-push}
 use Rattle.std.proofs.lemmas.List.Sums.{sum_by_push}
 use Rattle.ti_ids.specs.declared.number.ClassNo.{ClassNo}
 use Rattle.java_heap.specs.declared.object.Object.{Object}
 use Rattle.java_heap.specs.declared.object.Content.{Content}
 use Rattle.java_heap.specs.declared.object.Content.TheVariants.{Fields, Elements, Text, Literal, ClassObject}
 use Rattle.java_heap.specs.Objects.{words_of, is_literal, is_class_object}
-use Rattle.java_heap.specs.Heaps.{HeapValue, words_taken, literal_of, class_object_of, RefersThere, IsSound}
+use Rattle.java_heap.specs.Heaps.{HeapValue, words_taken, literal_of, class_object_of, IsSound}
 use Rattle.java_heap.specs.Kept.{LiteralIndex, ClassIndex, IsKept, is_plain}
 use Rattle.java_heap.proofs.Firsts.{added, passed_over, only_added}
-use Rattle.java_heap.proofs.Sound.{refers_more}
 
--- there is room for the object's words, its references are there, and it is no second one of which there is one
+-- there is room for the object's words, and it is no second one of which there is one
 pub record MayAdd (heap : HeapValue) (object : Object) : Type 0 where
   pub room : words_taken heap + words_of object.content ≤ heap.limit
-  pub refers : RefersThere heap object
   pub literal : (units : List ℕ) → IsTrue (is_literal units object.content) → IsNone (literal_of heap units)
   pub class_object : (class : ClassNo) → IsTrue (is_class_object class object.content) → IsNone (class_object_of heap class)
 
--- ---- words and references
+-- ---- words
 
 pub words_added : (heap : HeapValue) (object : Object) → words_taken (added heap object) ≡ words_taken heap + words_of object.content
 words_added heap object = sum_by_push (λ (o : Object). words_of o.content) heap.objects object
 
 pub sound_added : (heap : HeapValue) (object : Object) → IsSound heap → MayAdd heap object → IsSound (added heap object)
-sound_added heap object sound may =
-    let more : length heap.objects ≤ length (heap.objects ++ object ∷ []) = omega (arith, length_push heap.objects object) in
-    let refers = refers_more heap (added heap object) more in
-    record {
-      limited = sound.limited;
-      within = omega (arith, words_added heap object, may.room);
-      refers =
-          All-push (RefersThere (added heap object)) heap.objects object
-          (All-weaker (RefersThere heap) (RefersThere (added heap object)) refers heap.objects sound.refers) (refers object may.refers);
-      literals = λ units. only_added (is_literal units) heap object (may.literal units) (sound.literals units);
-      class_objects = λ class. only_added (is_class_object class) heap object (may.class_object class) (sound.class_objects class);
-    }
+sound_added heap object sound may = record {
+  limited = sound.limited;
+  within = omega (arith, words_added heap object, may.room);
+  literals = λ units. only_added (is_literal units) heap object (may.literal units) (sound.literals units);
+  class_objects = λ class. only_added (is_class_object class) heap object (may.class_object class) (sound.class_objects class);
+}
 
 -- ---- plain objects
 
@@ -59,13 +49,12 @@ plain_no_class_object (ClassObject other) class plain = absurd cc
 
 -- they may be added, and both indices stay right
 pub kept_added : (heap : HeapValue) (words : ℕ) (literals : LiteralIndex) (class_objects : ClassIndex) (object : Object) (more : ℕ) → IsKept heap words literals class_objects → more ≡ words_of object.content → words_taken heap + more ≤ heap.limit
-    → RefersThere heap object → IsTrue (is_plain object.content) → IsKept (added heap object) (words + more) literals class_objects
-kept_added heap words literals class_objects object more kept size room refers plain =
+    → IsTrue (is_plain object.content) → IsKept (added heap object) (words + more) literals class_objects
+kept_added heap words literals class_objects object more kept size room plain =
     let no_literal = λ (units : List ℕ). plain_no_literal object.content units plain in
     let no_class_object = λ (class : ClassNo). plain_no_class_object object.content class plain in
     let may : MayAdd heap object = record {
       room = omega (arith, room, size);
-      refers = refers;
       literal = λ units is. absurd (true≢false (sym is ∙ no_literal units));
       class_object = λ class is. absurd (true≢false (sym is ∙ no_class_object class));
     } in

@@ -1,25 +1,24 @@
 -- An object of which there is one is put behind the others and into its index: the index finds it, and what it found before.
-use Rattle.std.proofs.Common.{◌≡◌, ℕ, ◌+◌, ◌≤◌, Bool, true, false, cond, List, [], Option, Some, None, is_some, refl, sym, ap, ◌∙◌, subst, arith}
-use Rattle.std.specs.Prelude.{Vec, All, IsNone, IsTrue, bytes_eq, ◌==◌}
+use Rattle.std.proofs.Common.{◌≡◌, ℕ, ◌+◌, ◌≤◌, Bool, true, false, cond, List, Option, Some, None, is_some, refl, sym, ap, ◌∙◌, subst, arith}
+use Rattle.std.specs.Prelude.{Vec, IsNone, IsTrue, bytes_eq, ◌==◌}
 use Rattle.std.specs.Option.{option_or}
 use Rattle.std.specs.Ordering.{nat_cmp, is_eq}
 use Rattle.std.specs.Cmp.{eq_by_cmp_equiv}
 use Rattle.std.specs.Cmp.Lexicographic.{slice_cmp, nat_list_cmp_total, nat_list_eq_equiv}
 use Rattle.std.specs.Map.{KeepsOthers, IsKeyTest, AreApart, lookup}
-use Rattle.std.specs.BTreeMap.{get, is_at, UpdatesBy}
+use Rattle.std.specs.BTreeMap.{is_at, UpdatesBy}
 use Rattle.std.specs.declared.alloc.Global.{Global}
 use Rattle.std.proofs.lemmas.Map.Text.{is_eq-slice_cmp}
 use Rattle.std.proofs.lemmas.Slice.Eq.{bytes_eq-Decides}
 use Rattle.std.proofs.lemmas.Bool.{eqb-true, false≢true}
-use Rattle.std.proofs.lemmas.List.Elements.{All-nil}
 use Rattle.ti_ids.specs.declared.number.ClassNo.{ClassNo}
 use Rattle.ti_ids.specs.declared.number.ObjNo.{ObjNo}
 use Rattle.java_heap.specs.declared.object.Object.{Object}
 use Rattle.java_heap.specs.declared.object.Content.{Content}
 use Rattle.java_heap.specs.declared.object.Content.TheVariants.{Literal, ClassObject}
-use Rattle.java_heap.specs.Objects.{fresh, words_of, values_of, is_literal, is_class_object}
-use Rattle.java_heap.specs.Heaps.{HeapValue, words_taken, next_number, first_number, literal_of, class_object_of, NamesThere, RefersThere}
-use Rattle.java_heap.specs.Kept.{LiteralIndex, ClassIndex, IsKept, indexed_literal}
+use Rattle.java_heap.specs.Objects.{fresh, words_of, is_literal, is_class_object}
+use Rattle.java_heap.specs.Heaps.{HeapValue, words_taken, next_number, first_number, literal_of, class_object_of}
+use Rattle.java_heap.specs.Kept.{LiteralIndex, ClassIndex, IsKept, PutsClassObject, indexed_literal, indexed_class_object}
 use Rattle.java_heap.proofs.Added.{MayAdd, words_added, sound_added}
 use Rattle.java_heap.proofs.Firsts.{added, first_number-added, passed_over}
 
@@ -63,15 +62,11 @@ found_added test heap object b before after passes absent was put =
     ∙ or_last (first_number test heap) b (next_number heap) (λ e. absent (passes ∙ e))
     ∙ sym (first_number-added test heap object ∙ ap (λ (b : Bool). option_or (first_number test heap) (cond b (Some (next_number heap)) None)) passes)
 
-refers_nowhere : (heap : HeapValue) (class : ClassNo) (content : Content) → values_of content ≡ [] → RefersThere heap (fresh class content)
-refers_nowhere heap class content none = record { values = subst (All (NamesThere heap)) (sym none) (All-nil (NamesThere heap)); side = tt }
-
 -- ---- the String of a constant
 
 literal_may_add : (heap : HeapValue) (class : ClassNo) (units : List ℕ) → words_taken heap + words_of (Literal units) ≤ heap.limit → IsNone (literal_of heap units) → MayAdd heap (fresh class (Literal units))
 literal_may_add heap class units room absent = record {
   room = room;
-  refers = refers_nowhere heap class (Literal units) refl;
   literal = λ wanted equal. subst (λ (us : List ℕ). IsNone (literal_of heap us)) (sym ((bytes_eq-Decides wanted units).0 equal)) absent;
   class_object = λ class is. absurd (false≢true is);
 }
@@ -101,19 +96,14 @@ same_class class other e = ap (λ (n : ℕ). let class : ClassNo = record { 0 = 
 class_object_may_add : (heap : HeapValue) (class named : ClassNo) → words_taken heap + words_of (ClassObject named) ≤ heap.limit → IsNone (class_object_of heap named) → MayAdd heap (fresh class (ClassObject named))
 class_object_may_add heap class named room absent = record {
   room = room;
-  refers = refers_nowhere heap class (ClassObject named) refl;
   literal = λ units is. absurd (false≢true is);
   class_object = λ wanted equal. subst (λ (c : ClassNo). IsNone (class_object_of heap c)) (sym (same_class wanted named (eqb-true wanted.0 named.0 equal))) absent;
 }
 
--- the query of a number tests for it
-at_number : (named wanted : ClassNo) → is_at (nat_cmp named.0) wanted.0 ≡ (wanted.0 == named.0)
-at_number named wanted = grind arith
-
 pub class_object_kept : (heap : HeapValue) (words : ℕ) (literals : LiteralIndex) (class_objects class_objects' : ClassIndex) (class named : ClassNo) (n : ObjNo) (more : ℕ)
     → IsKept heap words literals class_objects → IsNone (class_object_of heap named) → more ≡ words_of (ClassObject named) → words_taken heap + more ≤ heap.limit → n ≡ next_number heap
-    → UpdatesBy nat_cmp (nat_cmp named.0) class_objects class_objects' (Some n) → IsKept (added heap (fresh class (ClassObject named))) (words + more) literals class_objects'
-class_object_kept heap words literals class_objects class_objects' class named n more kept absent size room next updates =
+    → PutsClassObject class_objects class_objects' named n → IsKept (added heap (fresh class (ClassObject named))) (words + more) literals class_objects'
+class_object_kept heap words literals class_objects class_objects' class named n more kept absent size room next puts =
     let object = fresh class (ClassObject named) in
     let may = class_object_may_add heap class named (omega (arith, room, size)) absent in
     record {
@@ -121,7 +111,7 @@ class_object_kept heap words literals class_objects class_objects' class named n
       counted = omega (arith, kept.counted, size, words_added heap object);
       literals_found = λ wanted. kept.literals_found wanted ∙ sym (passed_over (is_literal wanted) heap object refl);
       class_objects_found = λ wanted.
-          let found = get nat_cmp class_objects wanted.0 in
-          let put : get nat_cmp class_objects' wanted.0 ≡ cond (wanted.0 == named.0) (Some (next_number heap)) found = updates.0 wanted.0 ∙ ap (λ (b : Bool). cond b (Some n) found) (at_number named wanted) ∙ ap (λ (m : ObjNo). cond (wanted.0 == named.0) (Some m) found) next in
-          found_added (is_class_object wanted) heap object (wanted.0 == named.0) found (get nat_cmp class_objects' wanted.0) refl (may.class_object wanted) (kept.class_objects_found wanted) put;
+          let found = indexed_class_object class_objects wanted in
+          let put : indexed_class_object class_objects' wanted ≡ cond (wanted.0 == named.0) (Some (next_number heap)) found = puts wanted ∙ ap (λ (m : ObjNo). cond (wanted.0 == named.0) (Some m) found) next in
+          found_added (is_class_object wanted) heap object (wanted.0 == named.0) found (indexed_class_object class_objects' wanted) refl (may.class_object wanted) (kept.class_objects_found wanted) put;
     }

@@ -5,3 +5,6 @@ pub mod Firsts
 pub mod Replaced
 pub mod Added
 pub mod Indexes
+pub mod References
+pub mod Grown
+pub mod Between

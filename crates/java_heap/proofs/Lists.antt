@@ -3,6 +3,7 @@ use Rattle.std.proofs.Common.{◌≡◌, ℕ, ◌+◌, Bool, true, false, cond, 
 use Rattle.std.specs.Prelude.{slice_get, All}
 use Rattle.std.specs.List.{position_from}
 use Rattle.std.specs.Option.{option_or}
+use Rattle.std.proofs.lemmas.List.{set-get_or}
 use Rattle.std.proofs.lemmas.Option.{slice_get_within, get_or_from_slice_get}
 
 -- what holds of each element holds of one that is found
@@ -47,3 +48,7 @@ slice_get_set (z ∷ xs) zero y zero x at = let e : x ≡ y = cc in inr (refl, e
 slice_get_set (z ∷ xs) zero y (suc k) x at = inl at
 slice_get_set (z ∷ xs) (suc place) y zero x at = inl at
 slice_get_set (z ∷ xs) (suc place) y (suc k) x at = ⊎_elim (λ before. inl before) (λ here. inr (ap (λ (n : ℕ). suc n) here.0, here.1)) (slice_get_set xs place y k x at)
+
+-- an element that is put where it stands changes nothing
+pub set-found : {X : Type 0} (xs : List X) (place : ℕ) (x : X) → slice_get xs place ≡ Some x → set xs place x ≡ xs
+set-found {X = X} xs place x at = ap (λ (y : X). set xs place y) (sym (get_or_from_slice_get xs place x x at)) ∙ set-get_or xs place x

@@ -1,18 +1,14 @@
--- What a sound heap says of its objects, and how it stays sound.
-use Rattle.std.proofs.Common.{◌≡◌, ℕ, ◌+◌, ◌-◌, ◌*◌, ◌^◌, ◌<◌, ◌≤◌, List, [], ◌∷◌, length, Option, Some, arith}
-use Rattle.std.specs.Prelude.{slice_get, IfSome, sum_by}
-use Rattle.std.proofs.lemmas.List.Elements.{All-weaker}
+-- What a sound heap says of its objects.
+use Rattle.std.proofs.Common.{◌≡◌, ℕ, ◌+◌, ◌-◌, ◌*◌, ◌^◌, ◌<◌, ◌≤◌, List, [], ◌∷◌, length, Some, arith}
+use Rattle.std.specs.Prelude.{slice_get, sum_by}
 use Rattle.std.proofs.lemmas.List.Sums.{sum_by-cons, get_or-le-sum_by}
-use Rattle.std.proofs.lemmas.Option.{slice_get_within, get_or_from_slice_get, IfSome_then}
+use Rattle.std.proofs.lemmas.Option.{slice_get_within, get_or_from_slice_get}
 use Rattle.ti_ids.specs.declared.number.ObjNo.{ObjNo}
-use Rattle.ti_ids.specs.declared.value.Value.{Value}
-use Rattle.ti_ids.specs.declared.value.Value.TheVariants.{Int, Long, Ref}
 use Rattle.java_heap.specs.declared.object.Object.{Object}
 use Rattle.java_heap.specs.declared.object.Content.{Content}
 use Rattle.java_heap.specs.declared.object.Content.TheVariants.{Fields, Elements, Text, Literal, ClassObject}
-use Rattle.java_heap.specs.Objects.{words_of, values_of}
-use Rattle.java_heap.specs.Heaps.{HeapValue, words_taken, object_at, IsThere, NamesThere, RefersThere, IsSound}
-use Rattle.java_heap.proofs.Lists.{All-slice_get}
+use Rattle.java_heap.specs.Objects.{words_of}
+use Rattle.java_heap.specs.Heaps.{HeapValue, words_taken, object_at, IsSound}
 use Rattle.java_heap.proofs.Numbers.{found_place}
 
 -- ---- words
@@ -40,33 +36,9 @@ words-at-le heap place object at =
     let le = get_or-le-sum_by words heap.objects place object (slice_get_within heap.objects place object at) in
     rw (get_or_from_slice_get heap.objects place object object at) at le
 
--- the next object's number, and the words of each, fit 32 bits
-pub count_fits : (heap : HeapValue) → IsSound heap → length heap.objects + 1 < 2 ^ 32
+-- the next object's number, and the words of each, fit 31 bits
+pub count_fits : (heap : HeapValue) → IsSound heap → length heap.objects + 1 < 2 ^ 31
 count_fits heap sound = omega (arith, count-le-words heap, sound.within, sound.limited)
 
-pub words_fit : (heap : HeapValue) (n : ObjNo) (object : Object) → IsSound heap → object_at heap n ≡ Some object → words_of object.content < 2 ^ 32
+pub words_fit : (heap : HeapValue) (n : ObjNo) (object : Object) → IsSound heap → object_at heap n ≡ Some object → words_of object.content < 2 ^ 31
 words_fit heap n object sound found = omega (arith, words-at-le heap (n.0 - 1) object (found_place heap n object found).1, sound.within, sound.limited)
-
--- ---- references
-
--- an object that is there stays where there are as many objects or more
-pub there_more : (old new : HeapValue) → length old.objects ≤ length new.objects → (n : ObjNo) → IsThere old n → IsThere new n
-there_more old new more n there = (there.0, omega arith)
-
-pub side_more : (old new : HeapValue) → length old.objects ≤ length new.objects → (side : Option ObjNo) → IfSome side (IsThere old) → IfSome side (IsThere new)
-side_more old new more side there = IfSome_then side there (there_more old new more)
-
-pub names_more : (old new : HeapValue) → length old.objects ≤ length new.objects → (value : Value) → NamesThere old value → NamesThere new value
-names_more old new more (Ref reference) names = side_more old new more reference names
-names_more old new more (Int i) names = tt
-names_more old new more (Long i) names = tt
-
-pub refers_more : (old new : HeapValue) → length old.objects ≤ length new.objects → (object : Object) → RefersThere old object → RefersThere new object
-refers_more old new more object refers = record {
-  values = All-weaker (NamesThere old) (NamesThere new) (names_more old new more) (values_of object.content) refers.values;
-  side = side_more old new more object.side refers.side;
-}
-
--- the references of an object that is there
-pub refers_at : (heap : HeapValue) (n : ObjNo) (object : Object) → IsSound heap → object_at heap n ≡ Some object → RefersThere heap object
-refers_at heap n object sound found = All-slice_get (RefersThere heap) heap.objects (n.0 - 1) object sound.refers (found_place heap n object found).1

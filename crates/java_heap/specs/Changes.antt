@@ -1,6 +1,7 @@
 -- What the calls of a heap change.
-use Rattle.std.specs.Prelude.{◌≡◌, ℕ, ◌+◌, ◌-◌, ◌<◌, ◌↔◌, List, [], ◌∷◌, ◌++◌, slice_set, Option, Some, None, Result, Ok, Err, IfOk, OnErr}
+use Rattle.std.specs.Prelude.{◌≡◌, ℕ, ◌+◌, ◌-◌, ◌<◌, ◌↔◌, List, [], ◌∷◌, ◌++◌, slice_get, slice_set, Option, Some, None, Result, Ok, Err, IfOk, IsSomeAnd, OnErr}
 use Rattle.std.specs.Option.{option_map_or}
+use Rattle.ti_ids.specs.declared.number.ClassNo.{ClassNo}
 use Rattle.ti_ids.specs.declared.number.ObjNo.{ObjNo}
 use Rattle.ti_ids.specs.declared.value.Value.{Value}
 use Rattle.java_heap.specs.declared.fault.HeapFault.{HeapFault}
@@ -8,7 +9,7 @@ use Rattle.java_heap.specs.declared.fault.HeapFault.TheVariants.{Full}
 use Rattle.java_heap.specs.declared.object.Object.{Object}
 use Rattle.java_heap.specs.declared.object.Content.{Content}
 use Rattle.java_heap.specs.declared.object.Content.TheVariants.{Fields, Elements, Text}
-use Rattle.java_heap.specs.Objects.{words_of}
+use Rattle.java_heap.specs.Objects.{fresh, words_of, units_of}
 use Rattle.java_heap.specs.Heaps.{HeapValue, words_taken, next_number, object_at}
 
 -- ---- allocations
@@ -32,6 +33,17 @@ pub record Allocates (old new : HeapValue) (object : Object) (result : Result Ob
 abbrev pub GivesOnce : Option ObjNo → HeapValue → HeapValue → Object → Result ObjNo HeapFault → Type 0
 GivesOnce (Some n) old new object result = (result ≡ Ok n) × (new ≡ old)
 GivesOnce None old new object result = Allocates old new object result
+
+-- a copy of a text, where there is one: the object is added, or nothing changes, as in an allocation
+pub record Copies (old new : HeapValue) (object : Object) (result : Result (Option ObjNo) HeapFault) : Type 0 where
+  pub made : IfOk result (λ made. IsSomeAnd made (Adds old new object))
+  pub full : (result ≡ Err Full) ↔ PassesLimit old (words_of object.content)
+  pub err : OnErr result (new ≡ old)
+
+-- where there is no text, there is no copy, and nothing changes
+abbrev pub CopiesText : Option (List ℕ) → HeapValue → HeapValue → ClassNo → Result (Option ObjNo) HeapFault → Type 0
+CopiesText None old new class result = (result ≡ Ok None) × (new ≡ old)
+CopiesText (Some units) old new class result = Copies old new (fresh class (Text units)) result
 
 -- ---- changes of one object
 
@@ -57,6 +69,10 @@ put_elem place value content = content
 abbrev pub put_behind : List ℕ → Content → Content
 put_behind more (Text units) = Text (units ++ more)
 put_behind more content = content
+
+-- the units of the text at a place are put behind the text at another place or the same
+abbrev pub PutsTextOf : List Object → List Object → ℕ → ℕ → Type 0
+PutsTextOf old new place from = (was other : Object) → slice_get old place ≡ Some was → slice_get old from ≡ Some other → new ≡ slice_set old place (record was { content = put_behind (units_of other.content) was.content })
 
 -- the heap with another value in a field
 abbrev pub with_field : HeapValue → ObjNo → ℕ → Value → HeapValue

@@ -1,13 +1,14 @@
 -- What a heap holds: JVM specification 2.5.3. Its objects have the numbers from 1 on, and nothing is collected.
-use Rattle.std.specs.Prelude.{◌≡◌, ℕ, ◌+◌, ◌-◌, ◌^◌, ◌<◌, ◌≤◌, ◌==◌, Bool, if◌then◌else◌, ⊤, IsTrue, List, length, slice_get, sum_by, All, Option, Some, None, IfSome, IsSomeAnd, option_map, option_and_then}
+use Rattle.std.specs.Prelude.{◌≡◌, ℕ, ◌+◌, ◌-◌, ◌^◌, ◌<◌, ◌≤◌, ◌==◌, nat_le, Bool, false, if◌then◌else◌, ⊤, IsTrue, List, [], length, slice_get, sum_by, All, Option, Some, None, IfSome, option_map, option_and_then, unwrap_or}
 use Rattle.std.specs.List.{position_from}
+use Rattle.std.specs.Option.{option_map_or}
 use Rattle.ti_ids.specs.declared.number.ClassNo.{ClassNo}
 use Rattle.ti_ids.specs.declared.number.ObjNo.{ObjNo}
 use Rattle.ti_ids.specs.declared.value.Value.{Value}
 use Rattle.ti_ids.specs.declared.value.Value.TheVariants.{Int, Long, Ref}
 use Rattle.java_heap.specs.declared.object.Object.{Object}
 use Rattle.java_heap.specs.declared.object.Content.{Content}
-use Rattle.java_heap.specs.Objects.{words_of, values_of, fields_of, elements_of, text_of, class_named_by, is_literal, is_class_object, is_builder}
+use Rattle.java_heap.specs.Objects.{words_of, values_of, fields_of, elements_of, text_of, class_named_by, is_text, is_literal, is_class_object}
 
 -- how many words the objects may take, and the objects in order of allocation
 pub record HeapValue : Type 0 where
@@ -17,6 +18,10 @@ pub record HeapValue : Type 0 where
 -- the words that the objects take
 abbrev pub words_taken : HeapValue → ℕ
 words_taken heap = sum_by (λ o. words_of o.content) heap.objects
+
+-- whether so many words more are within the limit
+abbrev pub has_room : HeapValue → ℕ → Bool
+has_room heap words = nat_le (words_taken heap + words) heap.limit
 
 -- ---- objects by number
 
@@ -60,13 +65,17 @@ array_length_at heap n = option_map length (option_and_then elements_of (content
 abbrev pub text_at : HeapValue → ObjNo → Option (List ℕ)
 text_at heap n = option_and_then text_of (content_at heap n)
 
+-- the same, where what has no text has no units
+abbrev pub units_at : HeapValue → ObjNo → List ℕ
+units_at heap n = unwrap_or (text_at heap n) []
+
+-- whether an object holds a text that the program made, which alone may grow
+abbrev pub is_text_at : HeapValue → ObjNo → Bool
+is_text_at heap n = option_map_or is_text (content_at heap n) false
+
 -- the class that a Class object stands for
 abbrev pub class_named_at : HeapValue → ObjNo → Option ClassNo
 class_named_at heap n = option_and_then class_named_by (content_at heap n)
-
--- a StringBuilder has this number
-abbrev pub IsBuilder : HeapValue → ObjNo → Type 0
-IsBuilder heap n = IsSomeAnd (object_at heap n) (λ o. IsTrue (is_builder o))
 
 -- ---- objects of which there is one each
 
@@ -99,10 +108,15 @@ pub record RefersThere (heap : HeapValue) (object : Object) : Type 0 where
   pub values : All (NamesThere heap) (values_of object.content)
   pub side : IfSome object.side (IsThere heap)
 
--- what each heap keeps: its words, its references, one String for each constant and one Class object for each class
+-- so does each reference of each object
+abbrev pub AllReferThere : HeapValue → Type 0
+AllReferThere heap = All (RefersThere heap) heap.objects
+
+-- ---- what each heap keeps
+
+-- its words, one String for each constant and one Class object for each class
 pub record IsSound (heap : HeapValue) : Type 0 where
-  pub limited : heap.limit < 2 ^ 32
+  pub limited : heap.limit < 2 ^ 31
   pub within : words_taken heap ≤ heap.limit
-  pub refers : All (RefersThere heap) heap.objects
   pub literals : (units : List ℕ) → IsOnly (is_literal units) heap
   pub class_objects : (class : ClassNo) → IsOnly (is_class_object class) heap

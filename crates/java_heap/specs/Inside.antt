@@ -9,4 +9,4 @@ seen heap = record { limit = heap.limit; objects = heap.objects.items }
 
 -- what its fields keep
 abbrev pub IsKeptInside : Inside → Type 0
-IsKeptInside heap = IsKept (seen heap) heap.words heap.literals heap.class_objects
+IsKeptInside heap = IsKept (seen heap) heap.words heap.literals heap.class_objects.items

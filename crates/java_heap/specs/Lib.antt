@@ -3,3 +3,4 @@ pub mod Heaps
 pub mod Changes
 pub mod Kept
 pub mod Inside
+pub mod Laws

@@ -1,11 +1,10 @@
 -- What one object is: JVM specification 2.4, 2.7 and 5.1. Its measure in heap words is this project's own.
-use Rattle.std.specs.Prelude.{ℕ, ◌+◌, ◌==◌, Bool, true, false, ◌&&◌, List, [], length, Option, Some, None, bytes_eq}
+use Rattle.std.specs.Prelude.{ℕ, ◌+◌, ◌==◌, Bool, true, false, List, [], length, Option, Some, None, unwrap_or, bytes_eq}
 use Rattle.ti_ids.specs.declared.number.ClassNo.{ClassNo}
 use Rattle.ti_ids.specs.declared.value.Value.{Value}
 use Rattle.java_heap.specs.declared.object.Object.{Object}
 use Rattle.java_heap.specs.declared.object.Content.{Content}
 use Rattle.java_heap.specs.declared.object.Content.TheVariants.{Fields, Elements, Text, Literal, ClassObject}
-use Rattle.java_heap.specs.declared.object.TheConstants.{STRING_BUILDER}
 
 -- an object as it is made: nothing stands at its side
 abbrev pub fresh : ClassNo → Content → Object
@@ -41,6 +40,10 @@ text_of (Text units) = Some units
 text_of (Literal units) = Some units
 text_of _ = None
 
+-- the same, where what has no text has no units
+abbrev pub units_of : Content → List ℕ
+units_of content = unwrap_or (text_of content) []
+
 -- the class that a Class object stands for
 abbrev pub class_named_by : Content → Option ClassNo
 class_named_by (ClassObject class) = Some class
@@ -60,7 +63,3 @@ is_class_object wanted _ = false
 abbrev pub is_text : Content → Bool
 is_text (Text units) = true
 is_text _ = false
-
--- a StringBuilder
-abbrev pub is_builder : Object → Bool
-is_builder object = object.class.0 == STRING_BUILDER.0 && is_text object.content

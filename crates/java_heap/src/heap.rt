@@ -1,10 +1,12 @@
-ghost use Rattle.std.specs.Prelude.{◌≡◌, length};
+ghost use Rattle.std.specs.Prelude.{◌≡◌, ◌<◌, ◌^◌, length};
 
 mod access;
 mod allocation;
+mod growth;
 mod unique;
 
 use crate::Object;
+pub use allocation::HEADER_WORDS;
 use std::alloc::Global;
 use std::collections::BTreeMap;
 use std::marker::Model;
@@ -21,8 +23,8 @@ pub struct Heap {
     objects: Vec<Object>,
     /// The String of each constant, by its units.
     literals: BTreeMap<Vec<u16>, ObjNo>,
-    /// The Class object of each class, by the class's number.
-    class_objects: BTreeMap<u32, ObjNo>,
+    /// At the number of each class its Class object, if it was made.
+    class_objects: Vec<Option<ObjNo>>,
 }
 
 impl Model for Heap {
@@ -43,6 +45,7 @@ impl Heap {
 
     /// A heap of this limit in heap words, with no objects. No memory is taken yet.
     pub fn new(alloc: Global, limit: u32) -> Heap
+        requires { limit < 2 ^ 31 }
         ensures empty { result ≡ record { limit = limit; objects = [] } }
     {
         Heap {
@@ -51,7 +54,7 @@ impl Heap {
             words: 0,
             objects: Vec::new(alloc),
             literals: BTreeMap::new(alloc),
-            class_objects: BTreeMap::new(alloc),
+            class_objects: Vec::new(alloc),
         }
     }
 

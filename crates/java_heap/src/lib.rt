@@ -6,10 +6,12 @@
 
 mod fault;
 mod heap;
+mod laws;
 mod object;
 mod text;
 
 pub use fault::HeapFault;
-pub use heap::Heap;
+pub use heap::{HEADER_WORDS, Heap};
+pub use laws::reference_laws;
 pub use object::{CLASS, Content, Object, STRING, STRING_BUILDER};
 pub use text::Text;

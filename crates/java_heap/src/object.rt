@@ -1,6 +1,7 @@
 use crate::Text;
 use jv_names::Units;
 use sqlite_items::Items;
+use std::alloc::AllocError;
 use ti_ids::{ClassNo, ObjNo, Value};
 
 /// The class `java/lang/String`. Classes are numbered in the order of their definition, which begins with Object, Cloneable,
@@ -35,6 +36,60 @@ pub enum Content {
     Literal(Units),
     /// The Class object of this class, of which there is one for each class.
     ClassObject(ClassNo),
+}
+
+impl Content {
+    ghost use Rattle.std.specs.Prelude.{◌≡◌, IfOk, OnErr, OnOk, option_copied};
+    ghost use Rattle.java_heap.specs.Objects.{text_of, units_of, is_text};
+    ghost use Rattle.java_heap.specs.Changes.{put_behind};
+
+    /// The UTF-16 units of a text.
+    pub(crate) fn text(&self) -> Option<&[u16]>
+        ensures { option_copied result ≡ text_of self.now }
+    {
+        match self {
+            Content::Text(text) => Some(text.as_slice()),
+            Content::Literal(units) => Some(units.as_slice()),
+            _ => None,
+        }
+    }
+
+    /// The UTF-16 units of a text; none of what is no text.
+    pub(crate) fn units(&self) -> &[u16]
+        ensures { result.now ≡ units_of self.now }
+    {
+        match self {
+            Content::Text(text) => text.as_slice(),
+            Content::Literal(units) => units.as_slice(),
+            _ => &[],
+        }
+    }
+
+    /// Puts units behind those of a text that the program made, and tells whether it is one.
+    pub(crate) fn append(&mut self, units: &[u16]) -> Result<bool, AllocError>
+        ensures grown { OnOk result (self.new ≡ put_behind units.now self.old) }
+        ensures text { IfOk result (λ grows. grows ≡ is_text self.old) }
+        ensures err { OnErr result (self.new ≡ self.old) }
+    {
+        let Content::Text(text) = self else {
+            return Ok(false);
+        };
+        text.append(units)?;
+        Ok(true)
+    }
+
+    /// The same with the text's own units.
+    pub(crate) fn append_itself(&mut self) -> Result<bool, AllocError>
+        ensures grown { OnOk result (self.new ≡ put_behind (units_of self.old) self.old) }
+        ensures text { IfOk result (λ grows. grows ≡ is_text self.old) }
+        ensures err { OnErr result (self.new ≡ self.old) }
+    {
+        let Content::Text(text) = self else {
+            return Ok(false);
+        };
+        text.append_itself()?;
+        Ok(true)
+    }
 }
 
 impl Object {

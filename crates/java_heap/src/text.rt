@@ -27,6 +27,13 @@ impl Text {
         })
     }
 
+    /// A text of these units, which it keeps.
+    pub fn from_vec(units: Vec<u16>) -> Text
+        ensures { result ≡ units.items }
+    {
+        Text { units }
+    }
+
     /// The units, in order.
     pub fn as_slice(&self) -> &[u16]
         ensures { result.now ≡ self.now }
@@ -40,5 +47,13 @@ impl Text {
         ensures err { OnErr result (self.new ≡ self.old) }
     {
         self.units.extend_from_slice(units)
+    }
+
+    /// Puts its own units behind themselves, in linear time.
+    pub fn append_itself(&mut self) -> Result<(), AllocError>
+        ensures ok { OnOk result (self.new ≡ self.old ++ self.old) }
+        ensures err { OnErr result (self.new ≡ self.old) }
+    {
+        self.units.extend_from_within(0..self.units.len())
     }
 }

@@ -18,12 +18,12 @@ use Rattle.java_heap.specs.declared.object.Object.{Object}
 use Rattle.java_heap.specs.declared.object.Content.{Content}
 use Rattle.java_heap.specs.declared.object.Content.TheVariants.{Fields, Elements, Text, Literal, ClassObject}
 use Rattle.java_heap.specs.Objects.{fresh, is_class_object, is_literal, values_of}
-use Rattle.java_heap.specs.Heaps.{HeapValue, IsSound, IsThere, NamesThere, class_object_of, literal_of, object_at, words_taken}
+use Rattle.java_heap.specs.Heaps.{HeapValue, IsSound, IsThere, NamesThere, RefersThere, class_object_of, literal_of, object_at, words_taken}
 use Rattle.java_heap.specs.Changes.{put_behind, put_elem, put_field}
 use Rattle.java_heap.proofs.Added.{MayAdd, sound_added}
 use Rattle.java_heap.proofs.Lists.{All-slice_get}
 use Rattle.java_heap.proofs.Numbers.{found_place}
-use Rattle.java_heap.proofs.Sound.{names_more}
+use Rattle.java_heap.proofs.References.{names_more}
 use Rattle.link_versions.specs.Classes.{Class}
 use Rattle.monitor_table.specs.Monitors.{Monitor, entered, gone_to_wait, left, taken_back, with_all_notified, with_one_notified}
 use Rattle.thread_frames.specs.declared.frame.StackEntry.TheVariants.{Java, Init}
@@ -50,7 +50,7 @@ NamesNow now v = NamesThere now.heap v
 -- What is made has room, and is no second one where there is one each; what is put, held or owned is there. The kept error is there when a
 -- thread is made. The machine never begins anew.
 abbrev pub KeepsHeap : Core → Act → Type 0
-KeepsHeap now (Changes (Makes o)) = MayAdd now.heap o
+KeepsHeap now (Changes (Makes o)) = MayAdd now.heap o × RefersThere now.heap o
 KeepsHeap now (Changes (PutsField o place v)) = NamesThere now.heap v
 KeepsHeap now (Changes (PutsElement o place v)) = NamesThere now.heap v
 KeepsHeap now (Changes (PutsSide o side)) = IfSome side (IsThere now.heap)
@@ -69,10 +69,10 @@ KeepsHeap now (Notes what) = Unit {0}
 -- ---- the heap
 
 pub heap_stays : (now : Core) (a : Act) → KeepsHeap now a → IsSound now.heap → IsSound (behind now a).heap
-heap_stays now (Changes (Makes o)) ok sound = sound_added now.heap o sound ok
-heap_stays now (Changes (PutsField o place v)) ok sound = field_sound now.heap sound o place v ok
-heap_stays now (Changes (PutsElement o place v)) ok sound = elem_sound now.heap sound o place v ok
-heap_stays now (Changes (PutsSide o side)) ok sound = side_sound now.heap sound o side ok
+heap_stays now (Changes (Makes o)) ok sound = sound_added now.heap o sound ok.0
+heap_stays now (Changes (PutsField o place v)) ok sound = field_sound now.heap sound o place v
+heap_stays now (Changes (PutsElement o place v)) ok sound = elem_sound now.heap sound o place v
+heap_stays now (Changes (PutsSide o side)) ok sound = side_sound now.heap sound o side
 heap_stays now (Changes (PutsBehind o units)) ok sound = more_sound now.heap sound o units ok
 heap_stays now (Changes c) ok sound = sound
 heap_stays now (Notes what) ok sound = sound
@@ -262,10 +262,10 @@ objects_stay : (now : Core) (c : Change) → KeepsHeap now (Changes c)
     → AllByRecursion (ObjectHolds NamesNow (changed 0 c now)) (changed 0 c now).heap.objects
 objects_stay now (Makes o) ok later h =
     let c : Change = Makes o in
-    let values = recursion_from_All (NamesThere now.heap) (values_of o.content) ok.refers.values in
+    let values = recursion_from_All (NamesThere now.heap) (values_of o.content) ok.1.values in
     let own : ObjectNext now c o = record {
       values = values_on NamesNow NamesNow now (changed 0 c now) later (values_of o.content) values;
-      side = later (value.Ref o.side) ok.refers.side;
+      side = later (value.Ref o.side) ok.1.side;
     } in
     all_both (ObjectNext now c) now.heap.objects (o ∷ []) h (own, tt)
 objects_stay now (PutsField n place v) ok later h =
@@ -330,13 +330,11 @@ new_class_object heap (Text text) new class is = absurd cc
 new_class_object heap (Literal units) new class is = absurd cc
 
 may_add : (now : Core) (class : ClassNo) (content : Content) → heap_has_room now.heap content ≡ true → IsNew now.heap content
-    → HoldAll NamesNow now (values_of content) → MayAdd now.heap (fresh class content)
-may_add now class content room new values = record {
-  room = leb-true _ _ room;
-  refers = record { values = All-from_recursion (NamesThere now.heap) (values_of content) values; side = tt };
-  literal = new_literal now.heap content new;
-  class_object = new_class_object now.heap content new;
-}
+    → HoldAll NamesNow now (values_of content) → MayAdd now.heap (fresh class content) × RefersThere now.heap (fresh class content)
+may_add now class content room new values = (
+  record { room = leb-true _ _ room; literal = new_literal now.heap content new; class_object = new_class_object now.heap content new },
+  record { values = All-from_recursion (NamesThere now.heap) (values_of content) values; side = tt },
+)
 
 pub heap_rules : (classes : List Class) (t : ThreadNo) → ActRules classes t KeepsHeap NamesNow
 heap_rules classes t = record {

@@ -4,7 +4,7 @@ use Rattle.std.specs.Prelude.{IfSome, nat_le}
 use Rattle.std.specs.List.{AllByRecursion}
 use Rattle.ti_ids.specs.declared.number.ObjNo.{ObjNo}
 use Rattle.java_heap.specs.Heaps.{HeapValue, IsThere}
-use Rattle.java_heap.proofs.Sound.{side_more}
+use Rattle.java_heap.proofs.References.{side_more}
 use Rattle.thread_frames.specs.declared.frame.StackEntry.TheVariants.{Java, Init}
 use Rattle.machine_state.specs.Births.{unborn, unborn_frame, unborn_thread}
 use Rattle.machine_state.specs.Core.{Core, MethodFrame, StackFrame, Thread, is_of_classes, most_threads}

@@ -202,7 +202,6 @@ opening_sound job bounded =
       heap = record {
         limited = omega (arith, most);
         within = omega arith;
-        refers = All-nil (RefersThere heap);
         literals = λ units n object found passes. absurd (no_object heap refl n object found);
         class_objects = λ class n object found passes. absurd (no_object heap refl n object found);
       };
@@ -232,13 +231,11 @@ base_starts [] core rest k = k core refl
 base_starts (c ∷ classes) core rest k =
     let more = base_starts classes (behind core (Changes (AddsClass c.name states.Initialized))) rest k in ((tt, more.0), more.1)
 
-instance_may : (heap : HeapValue) (class : ClassNo) → words_taken heap + 2 ≤ heap.limit → MayAdd heap (fresh class (Fields []))
-instance_may heap class room = record {
-  room = room;
-  refers = record { values = All-nil _; side = tt };
-  literal = λ units is. absurd cc;
-  class_object = λ class is. absurd cc;
-}
+instance_may : (heap : HeapValue) (class : ClassNo) → words_taken heap + 2 ≤ heap.limit → MayAdd heap (fresh class (Fields [])) × RefersThere heap (fresh class (Fields []))
+instance_may heap class room = (
+  record { room = room; literal = λ units is. absurd cc; class_object = λ class is. absurd cc },
+  record { values = All-nil _; side = tt },
+)
 
 abbrev then_acts : List Act
 then_acts = Changes (SetsPhase phases.Start) ∷ Notes Started ∷ raises VMStart ∷ []

@@ -2,6 +2,7 @@
 use Rattle.std.proofs.Common.{◌≡◌, ◌∙◌, ◌⊎◌, ⊎_elim, inl, inr, ◌&&◌, not, cond, List, [], ◌∷◌, Option, Some, None, refl, sym, ap, subst}
 use Rattle.std.specs.Prelude.{option_map}
 use Rattle.std.specs.List.{AllByRecursion}
+use Rattle.std.proofs.lemmas.List.Elements.{All-from_recursion}
 use Rattle.ti_ids.specs.Maybe.{◌>>=◌}
 use Rattle.ti_ids.specs.declared.number.ThreadNo.{ThreadNo}
 use Rattle.ti_ids.specs.declared.actor.Actor.{Actor}
@@ -10,12 +11,15 @@ use Rattle.ti_ids.specs.declared.state.Activity.{Activity}
 use Rattle.ti_ids.specs.declared.state.Activity.TheVariants.{Free, Throwing, Waiting, Joining, Wanting}
 use Rattle.ti_codes.specs.declared.phase.Phase.{Phase}
 use Rattle.ti_codes.specs.declared.phase.Phase.TheVariants as phases
+use Rattle.java_heap.specs.declared.object.Object.{Object}
+use Rattle.java_heap.specs.Objects.{values_of}
+use Rattle.java_heap.specs.Heaps.{NamesThere, RefersThere}
 use Rattle.thread_frames.specs.declared.frame.StackEntry.TheVariants.{Java, Init}
 use Rattle.machine_state.specs.Core as core
 use Rattle.machine_state.specs.Core.{Core, has_ended, thread_at}
 use Rattle.machine_state.specs.Places.{is_suspended}
 use Rattle.machine_state.specs.Acts.{State, Act, Change, Changes, core_after, stepped}
-use Rattle.instruction_effect.proofs.ActRules.{ActivityHolds, Follow, FrameHolds, ThreadHolds}
+use Rattle.instruction_effect.proofs.ActRules.{ActivityHolds, Follow, FrameHolds, ObjectHolds, ThreadHolds}
 use Rattle.machine_steps.specs.World.{World}
 use Rattle.machine_steps.specs.Actors.{machine_acts, next_acts, next_call, phase_acts, starts}
 use Rattle.machine_steps.specs.Bounds.{IsBounded}
@@ -166,10 +170,18 @@ threads_there c (t ∷ threads) h k = (
   threads_there c threads h.1 k.1,
 )
 
+objects_there : (c : Core) (objects : List Object) → AllByRecursion (ObjectHolds NamesNow c) objects → AllByRecursion (RefersThere c.heap) objects
+objects_there c [] h = tt
+objects_there c (o ∷ objects) h = (
+  record { values = All-from_recursion (NamesThere c.heap) (values_of o.content) h.0.values; side = h.0.side },
+  objects_there c objects h.1,
+)
+
 references_there : (c : Core) → IsSoundCore c → AreReferencesThere c
 references_there c h = record {
   threads = threads_there c c.threads h.values.threads h.pins;
   statics = h.values.statics;
+  objects = All-from_recursion (RefersThere c.heap) c.heap.objects (objects_there c c.heap.objects h.values.objects);
   monitors = h.values.owned;
 }
 

@@ -1,5 +1,5 @@
 -- What the classes, as they are linked, are after every schedule.
-use Rattle.std.specs.Prelude.{◌≡◌, ℕ, ◌<◌, ◌^◌, List, [], ◌∷◌, length, Option, Some, None, IfSome, IsSome, IsTrue, true, unwrap_or}
+use Rattle.std.specs.Prelude.{◌≡◌, ℕ, ◌<◌, ◌^◌, List, [], ◌∷◌, length, Option, Some, None, IfSome, IsSome, IsTrue, true, unwrap_or, codes}
 use Rattle.std.specs.List.{filter_map, AllByRecursion}
 use Rattle.std.specs.Option.{option_and_then}
 use Rattle.ti_ids.specs.declared.actor.Actor.{Actor}
@@ -10,6 +10,7 @@ use Rattle.class_tree.specs.Trees.{Tree}
 use Rattle.class_tree.specs.Tree.{class_at}
 use Rattle.class_tree.specs.WellFormed.{is_well_formed}
 use Rattle.base_set.specs.BaseSet.{base_set}
+use Rattle.java_heap.specs.declared.object.TheConstants.{STRING, STRING_BUILDER, CLASS}
 use Rattle.link_versions.specs.declared.class.Element.{Element}
 use Rattle.link_versions.specs.Classes.{Class, Kind, OfFile, OfArray, number_of, versions_of}
 use Rattle.link_versions.specs.Changes.{IsThere, IsArrayName, element_by, CanInstall, AreLawful}
@@ -19,6 +20,7 @@ use Rattle.machine_state.specs.Trace.{Record}
 use Rattle.machine_state.specs.Versions.{left, making, version_made}
 use Rattle.machine_state.specs.Linked.{tree_of}
 use Rattle.machine_state.specs.Acts.{State, Act, Changes, Notes, acted}
+use Rattle.machine_steps.specs.Actors.{base_class}
 use Rattle.machine_steps.specs.World.{World}
 use Rattle.machine_steps.specs.Loading.{next_load, Loads, supers_of, supers_in, is_accepted}
 use Rattle.machine_steps.specs.Sites.{classes_now}
@@ -26,6 +28,14 @@ use Rattle.machine_steps.specs.Replay.{state}
 use Rattle.machine_steps.specs.Reachable.{IsOrderly, CallsRecord}
 use Rattle.machine_steps.specs.Calls.{NextCall, taken, answer_to}
 use Rattle.machine_steps.specs.Actors.{next_call}
+
+-- ---- the classes that the heap knows by number
+
+-- The numbers of String, StringBuilder and Class are those of their names in the base set.
+pub record AreBaseNumbers : Type 0 where
+  pub string : base_class (codes "java/lang/String") ≡ STRING
+  pub string_builder : base_class (codes "java/lang/StringBuilder") ≡ STRING_BUILDER
+  pub class : base_class (codes "java/lang/Class") ≡ CLASS
 
 -- ---- the order of classes
 

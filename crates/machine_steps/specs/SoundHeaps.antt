@@ -7,7 +7,7 @@ use Rattle.ti_ids.specs.declared.actor.Actor.{Actor}
 use Rattle.ti_ids.specs.declared.state.Activity.{Activity}
 use Rattle.ti_ids.specs.declared.state.Activity.TheVariants.{Throwing, Waiting, Wanting}
 use Rattle.ti_ids.specs.declared.value.Value.{Value}
-use Rattle.java_heap.specs.Heaps.{HeapValue, IsThere, NamesThere, IsSound}
+use Rattle.java_heap.specs.Heaps.{HeapValue, IsThere, NamesThere, AllReferThere, IsSound}
 use Rattle.thread_frames.specs.declared.frame.StackEntry.TheVariants.{Java, Init}
 use Rattle.machine_state.specs.Core.{Core, MethodFrame, StackFrame, Thread, monitor_at}
 use Rattle.machine_steps.specs.World.{World}
@@ -45,10 +45,11 @@ pub record ThreadNamesThere (heap : HeapValue) (thread : Thread) : Type 0 where
   pub activity : ActivityNamesThere heap thread.activity
   pub frames : AllByRecursion (FrameNamesThere heap) thread.frames
 
--- All of them: what threads and static fields hold, and the object of each monitor that is owned (section 2.11.10).
+-- All of them: what threads, static fields and objects hold, and the object of each monitor that is owned (section 2.11.10).
 pub record AreReferencesThere (core : Core) : Type 0 where
   pub threads : AllByRecursion (ThreadNamesThere core.heap) core.threads
   pub statics : AllByRecursion (λ s. NamesThere core.heap s.value) core.statics
+  pub objects : AllReferThere core.heap
   pub monitors : (o : ObjNo) (owner : ThreadNo) → (monitor_at core o).owner ≡ Some owner → IsThere core.heap o
 
 -- ---- schedules of a job within its bounds, where calls record

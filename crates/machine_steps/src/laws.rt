@@ -1,7 +1,7 @@
 ghost use Rattle.machine_steps.specs.Laws.{NoneAfterEnd, HasStepLeft, SomeoneIsEnabled, CountsOne, AddsRecords, PerformsNextCall, TakesNoOtherCall, OutputGrows, ObjectsStay, FewThreads, ClassesStay, LoadsOnce, StaysFailed, FailsLoads, NamesDiffer, FramesAreBorn, CodeStays, PickedCanRun, PickedEnds, FitsLimit, NoEndBefore, StatesNamed, StatesSchedule};
 ghost use Rattle.machine_steps.specs.CheckLaws.{PassesOrFails};
 ghost use Rattle.machine_steps.specs.Reachable.{PartsOfCoded, FramesHaveCode, StatesHaveParts};
-ghost use Rattle.machine_steps.specs.LawfulClasses.{ClassesArePlaced, LoadsSupersFirst, AcceptsSameNames, VersionsAreWellFormed, ArraysAreOfTheirNames, ClassesAreLawful};
+ghost use Rattle.machine_steps.specs.LawfulClasses.{AreBaseNumbers, ClassesArePlaced, LoadsSupersFirst, AcceptsSameNames, VersionsAreWellFormed, ArraysAreOfTheirNames, ClassesAreLawful};
 ghost use Rattle.machine_steps.specs.Bounds.{TasksAreBounded, TasksHaveOwnFiles};
 ghost use Rattle.machine_steps.specs.SoundHeaps.{HeapsAreSound, ReferencesAreThere};
 ghost use Rattle.machine_steps.specs.WithinLimits.{StacksAreWithin, MonitorsAreCounted, MonitorsHaveTables};
@@ -115,6 +115,9 @@ pub fn parts_laws()
 
 /// Does nothing, and is there for its contract: the laws of the classes, as they are linked.
 pub fn class_laws()
+    // The numbers by which the heap knows classes are those of the base set.
+    ensures base_numbers { AreBaseNumbers }
+
     // After every schedule each class has a name of its own, and its superclass and its interfaces are classes before it.
     ensures placed { ClassesArePlaced }
 

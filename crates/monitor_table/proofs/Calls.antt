@@ -2,8 +2,6 @@
 use Rattle.std.proofs.Common.{◌≡◌, ◌≢◌, ◌⊎◌, ℕ, ◌≤◌, Bool, true, false, cond, refl, sym, ap, subst, ◌∙◌, inl, inr}
 use Rattle.std.specs.Prelude.{Option, Some, None, option_map, IsSomeAnd, IfSome}
 use Rattle.std.proofs.lemmas.Bool.{cases_eq}
-use Rattle.std.specs.Ordering.{nat_cmp}
-use Rattle.std.specs.BTreeMap as tree
 use Rattle.std.specs.FinMap as finite
 use Rattle.slab.specs.Slab.{Slab, get, with_value, Updates}
 use Rattle.slab.proofs.SlabLemmas.{Updates-with_value}
@@ -12,14 +10,14 @@ use Rattle.ti_ids.specs.declared.number.ObjNo.{ObjNo}
 use Rattle.monitor_table.specs.declared.table.Monitors.TheInside.{Inside}
 use Rattle.monitor_table.specs.Monitors.{Monitor, free, is_free, entered, left, taken_back, IsCounted}
 use Rattle.monitor_table.specs.Table.{MonitorMap, state_of, with_state, with_change, IsOwner, IsNotified}
-use Rattle.monitor_table.specs.Index.{Places, shown, IsKept, IsIndexed}
+use Rattle.monitor_table.specs.Index.{Places, place_in, shown, IsKept, IsIndexed, PutsPlace}
 use Rattle.monitor_table.proofs.Counted.{IsCounted-free, IsCounted-left, entries-owned, IsKept-entered, IsKept-taken_back}
-use Rattle.monitor_table.proofs.Shown.{entry_of, apart, get-shown, same_monitors, get-with_state-here, get-with_state-other}
+use Rattle.monitor_table.proofs.Shown.{entry_of, get-shown, same_monitors, get-with_state-here, get-with_state-other}
 use Rattle.monitor_table.proofs.Indexed.{ChangesOne, IsIndexed-changed, monitor_here, monitor_elsewhere, StandsAt-named, get-shown-placed, absent-shown}
 
 -- places and monitors are a table, and contracts see it as this map
 pub record IsTable (places : Places) (monitors : Slab Monitor) (seen : MonitorMap) : Type 0 where
-  pub indexed : IsIndexed (tree.get nat_cmp places) (get monitors)
+  pub indexed : IsIndexed (place_in places) (get monitors)
   pub shows : shown places monitors ≡ seen
 
 -- a monitor that is counted may stand in the table where it isn't free
@@ -27,7 +25,7 @@ kept_entry : (m : Monitor) (b : Bool) → is_free m ≡ b → IsCounted m → If
 kept_entry m true unused counted = tt
 kept_entry m false used counted = record { in_use = used; counted = counted }
 
-IsTable-changed : (places new_places : Places) (monitors new_monitors : Slab Monitor) (object : ObjNo) (key : ℕ) (m : Monitor) → IsIndexed (tree.get nat_cmp places) (get monitors) → ChangesOne (tree.get nat_cmp places) (tree.get nat_cmp new_places) (get monitors) (get new_monitors) object.0 key (entry_of m) → IsCounted m → IsTable new_places new_monitors (with_state (shown places monitors) object m)
+IsTable-changed : (places new_places : Places) (monitors new_monitors : Slab Monitor) (object : ObjNo) (key : ℕ) (m : Monitor) → IsIndexed (place_in places) (get monitors) → ChangesOne (place_in places) (place_in new_places) (get monitors) (get new_monitors) object.0 key (entry_of m) → IsCounted m → IsTable new_places new_monitors (with_state (shown places monitors) object m)
 IsTable-changed places new_places monitors new_monitors object key m indexed one counted = record {
   indexed = IsIndexed-changed _ _ _ _ _ _ _ indexed one (kept_entry m _ refl counted);
   shows = same_monitors _ _ (λ n. by_case n (cases_eq n object.0));
@@ -37,9 +35,6 @@ IsTable-changed places new_places monitors new_monitors object key m indexed one
     by_case n (inl same) = rw same (get-shown new_places new_monitors object.0 ∙ monitor_here _ _ _ _ _ _ _ indexed one ∙ sym (get-with_state-here (shown places monitors) object m))
     by_case n (inr differ) =
         get-shown new_places new_monitors n ∙ monitor_elsewhere _ _ _ _ _ _ _ indexed one n differ ∙ sym (get-shown places monitors n) ∙ sym (get-with_state-other (shown places monitors) object m n differ)
-
-differs : (a b : ℕ) → a ≢ b → b ≢ a
-differs a b apart same = apart (sym same)
 
 entry_of-used : (m : Monitor) → is_free m ≡ false → Some m ≡ entry_of m
 entry_of-used m used = rw used refl
@@ -52,11 +47,11 @@ kept_at (Some w) m found kept = let same : w ≡ m = cc in subst IsKept same kep
 
 -- in a table, an object's monitor is this one, at this place
 pub record Stands (places : Places) (monitors : Slab Monitor) (object : ObjNo) (key : ℕ) (m : Monitor) : Type 0 where
-  pub indexed : IsIndexed (tree.get nat_cmp places) (get monitors)
-  pub at : tree.get nat_cmp places object.0 ≡ Some key
+  pub indexed : IsIndexed (place_in places) (get monitors)
+  pub at : place_in places object.0 ≡ Some key
   pub found : get monitors key ≡ Some m
 
-pub stands : (table : Inside) (object : ObjNo) (key : ℕ) (m : Monitor) → IsIndexed (tree.get nat_cmp table.places) (get table.monitors) → tree.get nat_cmp table.places object.0 ≡ Some key → get table.monitors key ≡ Some m → Stands table.places table.monitors object key m
+pub stands : (table : Inside) (object : ObjNo) (key : ℕ) (m : Monitor) → IsIndexed (place_in table.places.items) (get table.monitors) → place_in table.places.items object.0 ≡ Some key → get table.monitors key ≡ Some m → Stands table.places.items table.monitors object key m
 stands table object key m indexed at found = record { indexed = indexed; at = at; found = found }
 
 module _ {places : Places} {monitors : Slab Monitor} {object : ObjNo} {key : ℕ} {m : Monitor} (here : Stands places monitors object key m) where
@@ -67,10 +62,10 @@ module _ {places : Places} {monitors : Slab Monitor} {object : ObjNo} {key : ℕ
   pub IsKept-here : IsKept m
   IsKept-here = kept_at (get monitors key) m here.found (here.indexed.named object.0 key here.at)
 
-  own : (k : ℕ) → tree.get nat_cmp places object.0 ≡ Some k → k ≡ key
+  own : (k : ℕ) → place_in places object.0 ≡ Some k → k ≡ key
   own k also = let at = here.at in cc
 
-  alone : (other : ℕ) → tree.get nat_cmp places other ≡ Some key → other ≡ object.0
+  alone : (other : ℕ) → place_in places other ≡ Some key → other ≡ object.0
   alone other also = here.indexed.apart other object.0 key also here.at
 
   -- another monitor that may stand there was written
@@ -120,7 +115,7 @@ module _ {places : Places} {monitors : Slab Monitor} {object : ObjNo} {key : ℕ
       IsTable-written_change left new changed (record { in_use = used; counted = rw changed (IsCounted-left m IsKept-here.counted) })
 
   -- its owner exited, which left it free, and it was taken out
-  pub IsTable-removed : (rest : Places) (others : Slab Monitor) (new : Monitor) → new ≡ left m → is_free new ≡ true → tree.UpdatesBy nat_cmp (nat_cmp object.0) places rest None → Updates (with_value monitors key new) others key None → IsTable rest others (with_change left (shown places monitors) object)
+  pub IsTable-removed : (rest : Places) (others : Slab Monitor) (new : Monitor) → new ≡ left m → is_free new ≡ true → PutsPlace places rest object.0 None → Updates (with_value monitors key new) others key None → IsTable rest others (with_change left (shown places monitors) object)
   IsTable-removed rest others new changed unused places_updated monitors_updated =
       let written = Updates-with_value monitors key new (rw here.found refl) in
       let entry : None ≡ entry_of new = rw unused refl in
@@ -130,8 +125,8 @@ module _ {places : Places} {monitors : Slab Monitor} {object : ObjNo} {key : ℕ
       (record {
         own = own;
         alone = alone;
-        place = places_updated.1 ∙ ap (option_map (λ _. key)) entry;
-        places = λ other differ. places_updated.2 other (apart object.0 other (differs other object.0 differ));
+        place = places_updated.here ∙ ap (option_map (λ _. key)) entry;
+        places = λ other differ. places_updated.others other differ;
         monitor = monitors_updated.changed ∙ entry;
         monitors = λ other differ. monitors_updated.others other differ ∙ written.others other differ;
       })
@@ -140,14 +135,14 @@ module _ {places : Places} {monitors : Slab Monitor} {object : ObjNo} {key : ℕ
 -- ---- the first entry into a monitor that is free
 
 -- an object that had no place has this one
-IsTable-added : (thread : ThreadNo) (places more : Places) (monitors others : Slab Monitor) (object : ObjNo) (key : ℕ) → IsIndexed (tree.get nat_cmp places) (get monitors) → tree.get nat_cmp places object.0 ≡ None → get monitors key ≡ None → tree.Updates nat_cmp places more object.0 (Some key) → Updates monitors others key (Some (entered thread free)) → IsTable more others (with_state (shown places monitors) object (entered thread free))
+IsTable-added : (thread : ThreadNo) (places more : Places) (monitors others : Slab Monitor) (object : ObjNo) (key : ℕ) → IsIndexed (place_in places) (get monitors) → place_in places object.0 ≡ None → get monitors key ≡ None → PutsPlace places more object.0 (Some key) → Updates monitors others key (Some (entered thread free)) → IsTable more others (with_state (shown places monitors) object (entered thread free))
 IsTable-added thread places more monitors others object key indexed absent vacant places_updated monitors_updated =
     IsTable-changed places more monitors others object key (entered thread free) indexed
     (record {
       own = λ k also. absurd (cc);
       alone = λ other also. let named = StandsAt-named _ _ other key indexed also in absurd (cc (named.found));
-      place = places_updated.1;
-      places = λ other differ. places_updated.2 other (apart object.0 other (differs other object.0 differ));
+      place = places_updated.here;
+      places = λ other differ. places_updated.others other differ;
       monitor = monitors_updated.changed;
       monitors = monitors_updated.others;
     })
@@ -158,12 +153,12 @@ pub record IsAdded (thread : ThreadNo) (places more : Places) (monitors room oth
   pub room_made : room ≡ record monitors { capacity = room.capacity }
   pub key_is_next : key ≡ room.vacant_key
   pub key_was_vacant : get room key ≡ None
-  pub place : tree.Updates nat_cmp places more object.0 (Some key)
+  pub place : PutsPlace places more object.0 (Some key)
   pub stored_is_next : stored ≡ room.vacant_key
   pub value_made : value ≡ entered thread free
   pub monitor : Updates room others stored (Some value)
 
-pub IsTable-first : {thread : ThreadNo} {places more : Places} {monitors room others : Slab Monitor} {object : ObjNo} {key stored : ℕ} {value : Monitor} → IsAdded thread places more monitors room others object key stored value → IsIndexed (tree.get nat_cmp places) (get monitors) → finite.get (shown places monitors) object.0 ≡ None → IsTable more others (with_state (shown places monitors) object (entered thread free))
+pub IsTable-first : {thread : ThreadNo} {places more : Places} {monitors room others : Slab Monitor} {object : ObjNo} {key stored : ℕ} {value : Monitor} → IsAdded thread places more monitors room others object key stored value → IsIndexed (place_in places) (get monitors) → finite.get (shown places monitors) object.0 ≡ None → IsTable more others (with_state (shown places monitors) object (entered thread free))
 IsTable-first {thread} {places} {more} {monitors} {room} {others} {object} {key} {stored} {value} added indexed unseen =
     let same : (k : ℕ) → get room k ≡ get monitors k = λ k. ap (λ slab. get slab k) added.room_made in
     let own : stored ≡ key = added.stored_is_next ∙ sym added.key_is_next in

@@ -34,7 +34,7 @@ entries-owned m thread owned counted = rw owned at counted.entries
 
 -- ---- each change keeps it counted
 
-IsCounted-entered : (thread : ThreadNo) (m : Monitor) → IsCounted m → IsCounted (entered thread m)
+pub IsCounted-entered : (thread : ThreadNo) (m : Monitor) → IsCounted m → IsCounted (entered thread m)
 IsCounted-entered thread m counted = record { entries = omega arith; notified = counted.notified; waiting = counted.waiting }
 
 -- with the last entry the owner goes
@@ -46,17 +46,17 @@ entries-left (Some thread) entries false is counted = grind (arith, nat_tests)
 pub IsCounted-left : (m : Monitor) → IsCounted m → IsCounted (left m)
 IsCounted-left m counted = record { entries = entries-left m.owner m.entries _ refl counted.entries; notified = counted.notified; waiting = counted.waiting }
 
-IsCounted-gone_to_wait : (thread : ThreadNo) (m : Monitor) → 1 ≤ m.entries → IsCounted m → IsCounted (gone_to_wait thread m)
+pub IsCounted-gone_to_wait : (thread : ThreadNo) (m : Monitor) → 1 ≤ m.entries → IsCounted m → IsCounted (gone_to_wait thread m)
 IsCounted-gone_to_wait thread m some counted = record { entries = refl; notified = counted.notified; waiting = All-push GaveUp m.waiting (record { thread = thread; entries = m.entries }) counted.waiting some }
 
-IsCounted-with_one_notified : (m : Monitor) → IsCounted m → IsCounted (with_one_notified m)
+pub IsCounted-with_one_notified : (m : Monitor) → IsCounted m → IsCounted (with_one_notified m)
 IsCounted-with_one_notified m counted = record {
   entries = counted.entries;
   notified = All-append GaveUp m.notified (take 1 m.waiting) counted.notified (All-take GaveUp 1 m.waiting counted.waiting);
   waiting = All-drop GaveUp 1 m.waiting counted.waiting;
 }
 
-IsCounted-with_all_notified : (m : Monitor) → IsCounted m → IsCounted (with_all_notified m)
+pub IsCounted-with_all_notified : (m : Monitor) → IsCounted m → IsCounted (with_all_notified m)
 IsCounted-with_all_notified m counted = record {
   entries = counted.entries;
   notified = All-append GaveUp m.notified m.waiting counted.notified counted.waiting;
@@ -83,7 +83,7 @@ All-without thread [] all = all
 All-without thread (w ∷ waits) all =
     without_one thread w waits _ refl (all 0 w (omega arith)) (later w waits all) (All-without thread waits (later w waits all))
 
-IsCounted-taken_back : (thread : ThreadNo) (m : Monitor) → has_wait thread m.notified ≡ true → IsCounted m → IsCounted (taken_back thread m)
+pub IsCounted-taken_back : (thread : ThreadNo) (m : Monitor) → has_wait thread m.notified ≡ true → IsCounted m → IsCounted (taken_back thread m)
 IsCounted-taken_back thread m found counted = record {
   entries = le-given_up thread m.notified found counted.notified;
   notified = All-without thread m.notified counted.notified;

@@ -2,15 +2,13 @@
 use Rattle.std.proofs.Common.{◌≡◌, ◌≢◌, ◌⊎◌, ℕ, true, refl, sym, ap, subst, ◌∙◌, inl, inr}
 use Rattle.std.specs.Prelude.{Option, Some, None, option_map, unwrap_or, IsSome, IsSomeAnd, IfSome}
 use Rattle.std.proofs.lemmas.Bool.{cases_eq}
-use Rattle.std.specs.Ordering.{nat_cmp}
-use Rattle.std.specs.BTreeMap as tree
 use Rattle.std.specs.FinMap as finite
 use Rattle.slab.specs.Slab.{Slab, get}
 use Rattle.ti_ids.specs.declared.number.ThreadNo.{ThreadNo}
 use Rattle.ti_ids.specs.declared.number.ObjNo.{ObjNo}
 use Rattle.monitor_table.specs.Monitors.{Monitor, free, has_wait, IsCounted}
 use Rattle.monitor_table.specs.Table.{state_of, IsLawful}
-use Rattle.monitor_table.specs.Index.{Places, shown, IsKept, IsIndexed}
+use Rattle.monitor_table.specs.Index.{Places, place_in, shown, IsKept, IsIndexed}
 use Rattle.monitor_table.proofs.Counted.{IsCounted-free}
 use Rattle.monitor_table.proofs.Shown.{monitor_in, get-shown}
 
@@ -32,24 +30,24 @@ pub StandsAt-named : (place_of : ℕ → Option ℕ) (monitor_at : ℕ → Optio
 StandsAt-named place_of monitor_at number key indexed at = stands monitor_at key _ refl (indexed.named number key at)
 
 -- an object that has a place has the monitor there
-pub get-shown-placed : (places : Places) (monitors : Slab Monitor) (number key : ℕ) (m : Monitor) → tree.get nat_cmp places number ≡ Some key → get monitors key ≡ Some m → finite.get (shown places monitors) number ≡ Some m
+pub get-shown-placed : (places : Places) (monitors : Slab Monitor) (number key : ℕ) (m : Monitor) → place_in places number ≡ Some key → get monitors key ≡ Some m → finite.get (shown places monitors) number ≡ Some m
 get-shown-placed places monitors number key m at found =
     get-shown places monitors number ∙ ap (option_map (monitor_in monitors)) at ∙ ap (λ slot. Some (unwrap_or slot free)) found
 
 -- and one that has none has none
-pub get-shown-absent : (places : Places) (monitors : Slab Monitor) (number : ℕ) → tree.get nat_cmp places number ≡ None → finite.get (shown places monitors) number ≡ None
+pub get-shown-absent : (places : Places) (monitors : Slab Monitor) (number : ℕ) → place_in places number ≡ None → finite.get (shown places monitors) number ≡ None
 get-shown-absent places monitors number at = get-shown places monitors number ∙ ap (option_map (monitor_in monitors)) at
 
 -- so the object's monitor is that one
-pub state_of-placed : (places : Places) (monitors : Slab Monitor) (object : ObjNo) (key : ℕ) (m : Monitor) → tree.get nat_cmp places object.0 ≡ Some key → get monitors key ≡ Some m → state_of (shown places monitors) object ≡ m
+pub state_of-placed : (places : Places) (monitors : Slab Monitor) (object : ObjNo) (key : ℕ) (m : Monitor) → place_in places object.0 ≡ Some key → get monitors key ≡ Some m → state_of (shown places monitors) object ≡ m
 state_of-placed places monitors object key m at found = ap (λ slot. unwrap_or slot free) (get-shown-placed places monitors object.0 key m at found)
 
 -- and it is free where the object has no place
-pub state_of-absent : (places : Places) (monitors : Slab Monitor) (object : ObjNo) → tree.get nat_cmp places object.0 ≡ None → state_of (shown places monitors) object ≡ free
+pub state_of-absent : (places : Places) (monitors : Slab Monitor) (object : ObjNo) → place_in places object.0 ≡ None → state_of (shown places monitors) object ≡ free
 state_of-absent places monitors object at = ap (λ slot. unwrap_or slot free) (get-shown-absent places monitors object.0 at)
 
 -- an object that has no entry has no place
-pub absent-shown : (places : Places) (monitors : Slab Monitor) (number : ℕ) → finite.get (shown places monitors) number ≡ None → tree.get nat_cmp places number ≡ None
+pub absent-shown : (places : Places) (monitors : Slab Monitor) (number : ℕ) → finite.get (shown places monitors) number ≡ None → place_in places number ≡ None
 absent-shown places monitors number none = by_place _ (sym (get-shown places monitors number) ∙ none)
   where
     by_place : (place : Option ℕ) → option_map (monitor_in monitors) place ≡ None → place ≡ None
@@ -57,10 +55,10 @@ absent-shown places monitors number none = by_place _ (sym (get-shown places mon
     by_place (Some k) none = absurd (cc)
 
 -- an object that has notified a thread has a place
-pub placed-notified : (thread : ThreadNo) (places : Places) (monitors : Slab Monitor) (object : ObjNo) → has_wait thread (state_of (shown places monitors) object).notified ≡ true → IsSome (tree.get nat_cmp places object.0)
+pub placed-notified : (thread : ThreadNo) (places : Places) (monitors : Slab Monitor) (object : ObjNo) → has_wait thread (state_of (shown places monitors) object).notified ≡ true → IsSome (place_in places object.0)
 placed-notified thread places monitors object found = by_place _ refl
   where
-    by_place : (place : Option ℕ) → tree.get nat_cmp places object.0 ≡ place → IsSome place
+    by_place : (place : Option ℕ) → place_in places object.0 ≡ place → IsSome place
     by_place None at = let none = state_of-absent places monitors object at in absurd (cc (rw none at found))
     by_place (Some k) at = refl
 
@@ -144,8 +142,8 @@ module _ (p q : ℕ → Option ℕ) (s t : ℕ → Option Monitor) (number key :
 
 -- ---- what every table keeps
 
-module _ (places : Places) (monitors : Slab Monitor) (indexed : IsIndexed (tree.get nat_cmp places) (get monitors)) where
-  seen_kept : (number : ℕ) (place : Option ℕ) → tree.get nat_cmp places number ≡ place → (m : Monitor) → finite.get (shown places monitors) number ≡ Some m → IsKept m
+module _ (places : Places) (monitors : Slab Monitor) (indexed : IsIndexed (place_in places) (get monitors)) where
+  seen_kept : (number : ℕ) (place : Option ℕ) → place_in places number ≡ place → (m : Monitor) → finite.get (shown places monitors) number ≡ Some m → IsKept m
   seen_kept number None at m seen = absurd (cc (get-shown-absent places monitors number at))
   seen_kept number (Some key) at m seen =
       let here = StandsAt-named _ _ number key indexed at in

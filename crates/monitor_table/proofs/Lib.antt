@@ -6,3 +6,4 @@ pub mod Calls
 pub mod Answered
 pub mod Laws
 pub mod Examples
+mod Entries

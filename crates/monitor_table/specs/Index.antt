@@ -1,23 +1,33 @@
 -- How a table finds an object's monitor: by the object's place, which names a monitor of the slab. No public clause cites
 -- this module.
-use Rattle.std.specs.Prelude.{◌≡◌, ℕ, false, map, Option, Some, unwrap_or, IsSome, IsSomeAnd}
-use Rattle.std.specs.BTreeMap as tree
+use Rattle.std.specs.Prelude.{◌≡◌, ◌≢◌, ℕ, ◌+◌, false, List, [], ◌∷◌, Option, None, Some, unwrap_or, slice_index_or, IsSome, IsSomeAnd}
 use Rattle.std.specs.FinMap as finite
 use Rattle.slab.specs.Slab.{Slab, get}
 use Rattle.monitor_table.specs.Monitors.{Monitor, free, is_free, IsCounted}
 use Rattle.monitor_table.specs.Table.{MonitorMap}
 
--- the places of the objects' monitors
+-- at the number of each object the place of its monitor, if it has one
 abbrev pub Places : Type 0
-Places = tree.BTreeMap ℕ ℕ
+Places = List (Option ℕ)
 
--- an object's number, and the monitor at its place
-abbrev pub placed : Slab Monitor → ℕ × ℕ → ℕ × Monitor
-placed monitors place = (place.0, unwrap_or (get monitors place.1) free)
+-- the place of the monitor of the object of this number
+abbrev pub place_in : Places → ℕ → Option ℕ
+place_in places number = slice_index_or places number None
+
+-- the numbers of objects, from this one on, and the monitors at their places
+abbrev pub placed_from : Slab Monitor → ℕ → Places → List (ℕ × Monitor)
+placed_from monitors number [] = []
+placed_from monitors number (None ∷ places) = placed_from monitors (number + 1) places
+placed_from monitors number (Some key ∷ places) = (number, unwrap_or (get monitors key) free) ∷ placed_from monitors (number + 1) places
 
 -- what contracts see of places and monitors
 abbrev pub shown : Places → Slab Monitor → MonitorMap
-shown places monitors = finite.from_entries (map (placed monitors) places.entries)
+shown places monitors = finite.from_entries (placed_from monitors 0 places)
+
+-- the object has this place now, or none, and every other one keeps its own
+pub record PutsPlace (old new : Places) (number : ℕ) (place : Option ℕ) : Type 0 where
+  pub here : place_in new number ≡ place
+  pub others : (other : ℕ) → other ≢ number → place_in new other ≡ place_in old other
 
 -- a monitor that may stand in the table
 pub record IsKept (m : Monitor) : Type 0 where

@@ -1,3 +1,4 @@
 pub mod Monitors
 pub mod Table
 pub mod Index
+pub mod Laws

@@ -2,8 +2,10 @@
 //! 2.11.10; Java Language Specification, SE 8, 17.1 and 17.2).
 #![tactic(auto)]
 
+mod law;
 mod monitor;
 mod table;
 
+pub use law::monitor_laws;
 pub use monitor::Waiting;
 pub use table::{Entry, MonitorFault, Monitors};

@@ -1,17 +1,14 @@
-ghost use Rattle.std.specs.Prelude.{◌≡◌, ◌≢◌, ◌-◌, ◌^◌, ◌<◌, ◌↔◌, None, Some, IsTrue, IsOk, IfOk, IfErr, OnOk, OnErr, option_copied};
-ghost use Rattle.std.specs.Ordering.{nat_cmp};
-ghost use Rattle.std.specs.BTreeMap as tree;
+ghost use Rattle.std.specs.Prelude.{◌≡◌, ◌≢◌, ◌-◌, ◌^◌, ◌<◌, ◌↔◌, None, Some, IsTrue, IsSome, IsOk, IfOk, IfErr, OnOk, OnErr, option_copied};
 ghost use Rattle.std.specs.FinMap as map;
 ghost use Rattle.slab.specs.Slab.{get, ContainsKey};
 ghost use Rattle.ti_ids.specs.declared.number.ThreadNo.{ThreadNo};
 ghost use Rattle.monitor_table.specs.Monitors.{free, entered, left, gone_to_wait, with_one_notified, with_all_notified, taken_back};
 ghost use Rattle.monitor_table.specs.Table.{state_of, with_state, with_change, IsOwner, IsOtherOwner, IsNotified, IsWaiting, IsLawful};
-ghost use Rattle.monitor_table.specs.Index.{shown, IsIndexed};
+ghost use Rattle.monitor_table.specs.Index.{place_in, shown, IsIndexed, PutsPlace};
 
 use crate::monitor::Monitor;
 use slab::Slab;
 use std::alloc::{AllocError, Global};
-use std::collections::BTreeMap;
 use std::marker::Model;
 use thiserror::Error;
 use ti_ids::{ObjNo, ThreadNo};
@@ -50,32 +47,30 @@ impl From<AllocError> for MonitorFault {
 /// for which nobody waits is free, and its room is used again. Threads that wait for an object are notified in the order of
 /// their waits; which of those that were notified goes on first is the caller's to choose.
 ///
-/// A call takes logarithmic time in the number of monitors in use. `take_back`, `is_notified` and `is_waiting` take besides
-/// linear time in the number of threads that wait for that object.
+/// A call takes constant time, but for the room that an object of a larger number than any before takes at its first entry.
+/// `take_back`, `is_notified` and `is_waiting` take linear time in the number of threads that wait for that object.
 #[derive(Drop)]
 pub struct Monitors {
-    // Where in the slab the monitor of each object in use stands.
-    places: BTreeMap<u32, usize>,
+    // At the number of each object where in the slab its monitor stands, if it is in use.
+    places: Vec<Option<usize>>,
     monitors: Slab<Monitor>,
     alloc: Global,
 }
 
 impl Model for Monitors {
-    ghost use Rattle.std.specs.Ordering.{nat_cmp};
-    ghost use Rattle.std.specs.BTreeMap as tree;
     ghost use Rattle.std.specs.FinMap as map;
     ghost use Rattle.std.specs.Coded.{coded_ℕ};
     ghost use Rattle.slab.specs.Slab.{get};
     ghost use Rattle.monitor_table.specs.Table.{MonitorMap, monitor_code};
-    ghost use Rattle.monitor_table.specs.Index.{shown, IsIndexed};
+    ghost use Rattle.monitor_table.specs.Index.{place_in, shown, IsIndexed};
 
     ghost Value = { MonitorMap };
 
     ghost coded = { map.code coded_ℕ monitor_code };
 
-    ghost view = { λ t. shown t.places t.monitors };
+    ghost view = { λ t. shown t.places.items t.monitors };
 
-    ghost invariant = { λ t. IsIndexed (tree.get nat_cmp t.places) (get t.monitors) };
+    ghost invariant = { λ t. IsIndexed (place_in t.places.items) (get t.monitors) };
 }
 
 impl Monitors {
@@ -84,7 +79,7 @@ impl Monitors {
         ensures { result ≡ map.empty }
     {
         Monitors {
-            places: BTreeMap::new(alloc),
+            places: Vec::new(alloc),
             monitors: Slab::new(alloc),
             alloc,
         }
@@ -95,8 +90,8 @@ impl Monitors {
         ensures monitor { option_copied result ≡ map.get self.now object.0 }
         ensures lawful { IsLawful self.now }
     {
-        let key = self.places.get(&object.0)?;
-        self.monitors.get(*key)
+        let key = place_of(&self.places, object)?;
+        self.monitors.get(key)
     }
 
     /// The thread that owns an object's monitor.
@@ -147,7 +142,7 @@ impl Monitors {
         // A monitor that is in use takes no memory.
         ensures memory { OnErr result (state_of self.old object ≡ free) }
     {
-        let Some(&key) = self.places.get(&object.0) else {
+        let Some(key) = place_of(&self.places, object) else {
             self.add(object, thread)?;
             return Ok(Entry::Entered);
         };
@@ -165,7 +160,7 @@ impl Monitors {
         ensures kept { OnErr result (self.new ≡ self.old) }
     {
         self.monitors.reserve(1)?;
-        self.places.insert(object.0, self.monitors.vacant_key())?;
+        put(&mut self.places, object, self.monitors.vacant_key())?;
         self.monitors
             .insert_reserved(Monitor::new(self.alloc, thread));
         Ok(())
@@ -182,7 +177,7 @@ impl Monitors {
         let monitor = &mut self.monitors[key];
         monitor.exit();
         if monitor.is_free() {
-            self.places.remove(&object.0);
+            clear(&mut self.places, object);
             self.monitors.remove(key);
         }
         Ok(())
@@ -232,26 +227,56 @@ impl Monitors {
         requires not_owned { (state_of self.old object).owner ≡ None }
         ensures { self.new ≡ with_change (taken_back thread) self.old object }
     {
-        let key = self.places[&object.0];
+        let key = place_of(&self.places, object).unwrap();
         self.monitors[key].take_back(thread);
+    }
+}
+
+/// The place of an object's monitor, if it is in use.
+fn place_of(places: &Vec<Option<usize>>, object: ObjNo) -> Option<usize>
+    ensures { result ≡ place_in places.now.items object.0 }
+{
+    *places.get(object.0 as usize)?
+}
+
+/// Puts the place of an object's monitor, with room for the object's number.
+fn put(places: &mut Vec<Option<usize>>, object: ObjNo, key: usize) -> Result<(), AllocError>
+    ensures put { OnOk result (PutsPlace places.old.items places.new.items object.0 (Some key)) }
+    ensures err { OnErr result (places.new.items ≡ places.old.items) }
+{
+    let number = object.0 as usize;
+    if places.len() <= number {
+        places.resize(number + 1, None)?;
+    }
+    places[number] = Some(key);
+    Ok(())
+}
+
+/// The object has no place any more.
+fn clear(places: &mut Vec<Option<usize>>, object: ObjNo)
+    ensures { PutsPlace places.old.items places.new.items object.0 None }
+{
+    let number = object.0 as usize;
+    if number < places.len() {
+        places[number] = None;
     }
 }
 
 /// The place of an object's monitor, where the thread owns it.
 fn owned_place(
-    places: &BTreeMap<u32, usize>,
+    places: &Vec<Option<usize>>,
     monitors: &Slab<Monitor>,
     object: ObjNo,
     thread: ThreadNo,
 ) -> Result<usize, MonitorFault>
-    requires { IsIndexed (tree.get nat_cmp places.now) (get monitors.now) }
-    ensures owner { OnOk result (IsOwner (shown places.now monitors.now) object thread) }
-    ensures not_owner { OnErr result (¬ IsOwner (shown places.now monitors.now) object thread) }
+    requires { IsIndexed (place_in places.now.items) (get monitors.now) }
+    ensures owner { OnOk result (IsOwner (shown places.now.items monitors.now) object thread) }
+    ensures not_owner { OnErr result (¬ IsOwner (shown places.now.items monitors.now) object thread) }
     ensures fault { IfErr result (λ fault. fault ≡ MonitorFault.NotOwner) }
-    ensures place { IfOk result (λ key. tree.get nat_cmp places.now object.0 ≡ Some key) }
+    ensures place { IfOk result (λ key. place_in places.now.items object.0 ≡ Some key) }
     ensures stands { IfOk result (ContainsKey monitors.now) }
 {
-    let Some(&key) = places.get(&object.0) else {
+    let Some(key) = place_of(places, object) else {
         return Err(MonitorFault::NotOwner);
     };
     match monitors[key].owner() {

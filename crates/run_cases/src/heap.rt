@@ -1,6 +1,4 @@
 //! The heap (JVM specification 2.4 and 2.5.3).
-ghost use Rattle.std.specs.Prelude.{IsTrue, IfSome, All};
-ghost use Rattle.java_heap.specs.Heaps.{IsThere, NamesThere};
 
 use crate::words::{
     Shown, Unanswered, number, object, reference, said, told, told_number, value, values,
@@ -33,53 +31,17 @@ fn units_of(alloc: Global, heap: &Heap, object: ObjNo) -> Result<String, Unanswe
     }
 }
 
-/// Whether an object is there.
-fn is_there(heap: &Heap, object: ObjNo) -> bool
-    ensures { IsTrue result → IsThere heap.now object }
-{
-    object.0 > 0 && object.0 <= heap.count()
-}
-
-/// Whether a value is no reference to an object that isn't there.
-fn names_there(heap: &Heap, value: Value) -> bool
-    ensures { IsTrue result → NamesThere heap.now value }
-{
-    match value {
-        Value::Ref(Some(object)) => is_there(heap, object),
-        _ => true,
-    }
-}
-
-/// The same of several values.
-fn name_there(heap: &Heap, values: &[Value]) -> bool
-    ensures { IsTrue result → All (NamesThere heap.now) values.now }
-{
-    values.iter().all(|value| names_there(heap, *value))
-}
-
-fn alloc_object(
+/// Three values, which are all there.
+fn three(
     alloc: Global,
-    heap: &mut Heap,
-    class: ClassNo,
-    fields: &[Value],
+    values: (Option<Value>, Option<Value>, Option<Value>),
 ) -> Result<String, Unanswered> {
-    if !name_there(heap, fields) {
-        return Err(Unanswered::NotCase);
+    match values {
+        (Some(first), Some(second), Some(third)) => {
+            Ok(format!(in alloc; "{} {} {}", Shown(first), Shown(second), Shown(third))?)
+        }
+        _ => said(alloc, "none"),
     }
-    made(alloc, heap.alloc_object(class, fields))
-}
-
-fn alloc_array(
-    alloc: Global,
-    heap: &mut Heap,
-    class: ClassNo,
-    length: u32,
-    first: Value,
-) -> Result<String, Unanswered> {
-    if !names_there(heap, first) {
-        return Err(Unanswered::NotCase);
-    }
-    made(alloc, heap.alloc_array(class, length, first))
 }
 
 /// A new instance whose fields are an int, a long and null, and what they are once a value was put in the last one.
@@ -93,13 +55,13 @@ fn put_field(
     else {
         return said(alloc, "no object");
     };
-    if !names_there(heap, value) {
-        return Err(Unanswered::NotCase);
-    }
     heap.set_field(object, 2, value);
-    let (first, second) = (heap.get_field(object, 0), heap.get_field(object, 1));
-    let third = heap.get_field(object, 2);
-    Ok(format!(in alloc; "{} {} {}", Shown(first), Shown(second), Shown(third))?)
+    let fields = (
+        heap.get_field(object, 0),
+        heap.get_field(object, 1),
+        heap.get_field(object, 2),
+    );
+    three(alloc, fields)
 }
 
 /// A new array of three elements that are null, and what they are once a value was put in the second one.
@@ -112,13 +74,13 @@ fn put_elem(
     let Ok(array) = heap.alloc_array(class, 3, Value::Ref(None)) else {
         return said(alloc, "no object");
     };
-    if !names_there(heap, value) {
-        return Err(Unanswered::NotCase);
-    }
     heap.set_elem(array, 1, value);
-    let (first, second) = (heap.get_elem(array, 0), heap.get_elem(array, 1));
-    let third = heap.get_elem(array, 2);
-    Ok(format!(in alloc; "{} {} {}", Shown(first), Shown(second), Shown(third))?)
+    let elements = (
+        heap.get_elem(array, 0),
+        heap.get_elem(array, 1),
+        heap.get_elem(array, 2),
+    );
+    three(alloc, elements)
 }
 
 /// A new StringBuilder, and the units that it has once others were put behind its own, or what refused them.
@@ -128,23 +90,21 @@ fn append(
     units: &Units,
     more: &Units,
 ) -> Result<String, Unanswered> {
-    let Ok(builder) = heap.alloc_text(STRING_BUILDER, units) else {
+    let Ok(builder) = heap.alloc_text(STRING_BUILDER, units.as_slice()) else {
         return said(alloc, "no object");
     };
-    let appended = heap.append(builder, more);
+    let appended = heap.append(builder, more.as_slice());
     let now = units_of(alloc, heap, builder)?;
     match appended {
-        Ok(()) => Ok(now),
+        Ok(true) => Ok(now),
+        Ok(false) => said(alloc, "no text"),
         Err(fault) => Ok(format!(in alloc; "{fault}; {now}")?),
     }
 }
 
 /// The reference at an object's side.
 fn side(alloc: Global, heap: &Heap, object: ObjNo) -> Result<String, Unanswered> {
-    if !is_there(heap, object) {
-        return Err(Unanswered::NotCase);
-    }
-    told(alloc, Some(Value::Ref(heap.side(object))))
+    told(alloc, heap.side(object).map(Value::Ref))
 }
 
 fn set_side(
@@ -153,18 +113,12 @@ fn set_side(
     object: ObjNo,
     side: Option<ObjNo>,
 ) -> Result<String, Unanswered> {
-    if !is_there(heap, object) || !names_there(heap, Value::Ref(side)) {
-        return Err(Unanswered::NotCase);
-    }
     heap.set_side(object, side);
     said(alloc, "done")
 }
 
 fn class_of(alloc: Global, heap: &Heap, object: ObjNo) -> Result<String, Unanswered> {
-    if !is_there(heap, object) {
-        return Err(Unanswered::NotCase);
-    }
-    told_number(alloc, "", Some(heap.class_of(object).0))
+    told_number(alloc, "", heap.class_of(object).map(|class| class.0))
 }
 
 fn size(alloc: Global, heap: &Heap) -> Result<String, Unanswered> {
@@ -177,15 +131,21 @@ fn make(alloc: Global, heap: &mut Heap, words: &[&str]) -> Result<String, Unansw
     match *words {
         ["alloc_object", class, ref fields @ ..] => {
             let fields = values(alloc, fields)?;
-            alloc_object(alloc, heap, ClassNo(number(class)?), &fields)
+            made(alloc, heap.alloc_object(ClassNo(number(class)?), &fields))
         }
         ["alloc_array", class, length, first] => {
             let class = ClassNo(number(class)?);
-            alloc_array(alloc, heap, class, number(length)?, value(first)?)
+            made(
+                alloc,
+                heap.alloc_array(class, number(length)?, value(first)?),
+            )
         }
         ["alloc_text", class, word] => {
             let class = ClassNo(number(class)?);
-            made(alloc, heap.alloc_text(class, &text(alloc, word)?))
+            made(
+                alloc,
+                heap.alloc_owned_text(class, text(alloc, word)?.into_vec()),
+            )
         }
         ["literal", word] => made(alloc, heap.literal(&text(alloc, word)?)),
         ["class_object", class] => made(alloc, heap.class_object(ClassNo(number(class)?))),

@@ -21,13 +21,21 @@ pub enum Held {
     Classes(Classes),
 }
 
+/// A heap of this limit in words, which is below 2^31.
+fn heap_of(alloc: Global, limit: u32) -> Result<Held, Unanswered> {
+    if limit >= 0x8000_0000 {
+        return Err(Unanswered::NotCase);
+    }
+    Ok(Held::Heap(Heap::new(alloc, limit)))
+}
+
 /// A new value.
 fn begin(alloc: Global, words: &[&str]) -> Result<Held, Unanswered> {
     match *words {
         ["monitors"] => Ok(Held::Monitors(Monitors::new(alloc))),
         ["stacks"] => Ok(Held::Stacks(Stacks::new(alloc))),
         ["operands", room] => Ok(Held::Operands(Operands::new(alloc, number(room)?)?)),
-        ["heap", limit] => Ok(Held::Heap(Heap::new(alloc, number(limit)?))),
+        ["heap", limit] => heap_of(alloc, number(limit)?),
         ["classes"] => Ok(Held::Classes(Classes::new(alloc))),
         _ => Err(Unanswered::NotCase),
     }

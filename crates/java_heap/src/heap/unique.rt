@@ -1,8 +1,9 @@
 //! Objects of which there is one each: the String of a constant, and the Class object of a class (JVM specification 5.1).
-ghost use Rattle.std.specs.Prelude.{◌≡◌, ◌+◌, ◌≤◌, IfOk, IsNone, OnErr};
+ghost use Rattle.std.specs.Prelude.{◌≡◌, ◌+◌, ◌≤◌, IfOk, IsNone, OnErr, OnOk};
 ghost use Rattle.java_heap.specs.Objects.{fresh, words_of};
 ghost use Rattle.java_heap.specs.Heaps.{words_taken, literal_of, class_object_of};
 ghost use Rattle.java_heap.specs.Changes.{Adds, GivesOnce};
+ghost use Rattle.java_heap.specs.Kept.{PutsClassObject};
 
 use super::Heap;
 use super::allocation::HEADER_WORDS;
@@ -23,7 +24,8 @@ impl Heap {
         Ok(self.add_literal(units, words)?)
     }
 
-    /// The Class object of a class, which is made at the first call.
+    /// The Class object of a class, which is made at the first call. The index of them is as long as the largest number of
+    /// a class that has one.
     pub fn class_object(&mut self, class: ClassNo) -> Result<ObjNo, HeapFault>
         ensures once { GivesOnce (class_object_of self.old class) self.old self.new (fresh CLASS (Content.ClassObject class)) result }
     {
@@ -41,11 +43,11 @@ impl Heap {
         self.literals.get(units).copied()
     }
 
-    /// The Class object of a class, if it was made.
+    /// The Class object of a class, if it was made, in constant time.
     pub fn class_object_made(&self, class: ClassNo) -> Option<ObjNo>
         ensures value { result ≡ class_object_of self.now class }
     {
-        self.class_objects.get(&class.0).copied()
+        *self.class_objects.get(class.0 as usize)?
     }
 
     /// Makes the String of a constant, which takes so many words.
@@ -77,9 +79,22 @@ impl Heap {
         let number = self.next_number();
         let object = Object::fresh(CLASS, Content::ClassObject(class));
         self.objects.reserve(1)?;
-        self.class_objects.insert(class.0, number)?;
+        put(&mut self.class_objects, class, number)?;
         self.objects.push_reserved(object);
         self.words += words;
         Ok(number)
     }
+}
+
+/// Puts a class's Class object into an index, which grows as far as the class's number.
+fn put(index: &mut Vec<Option<ObjNo>>, class: ClassNo, object: ObjNo) -> Result<(), AllocError>
+    ensures put { OnOk result (PutsClassObject index.old.items index.new.items class object) }
+    ensures err { OnErr result (index.new.items ≡ index.old.items) }
+{
+    let place = class.0 as usize;
+    if index.len() <= place {
+        index.resize(place + 1, None)?;
+    }
+    index[place] = Some(object);
+    Ok(())
 }

@@ -16,4 +16,4 @@ invariant_of-self-2 c =
     c.push_reserved.ensures.items ∙ ap (λ (os : List Object). os ++ c.fresh-object.result ∷ []) c.in_ok-reserve.ensures.items
     ∙ ap (λ (o : Object). c.self.inside.objects.items ++ o ∷ []) c.fresh-object.ensures in
     rw objects
-    (class_object_kept (seen c.self.inside) c.self.inside.words c.self.inside.literals c.self.inside.class_objects c.insert.new.self CLASS c.args.class c.next_number-number.result c.args.words c.self.invariant absent c.requires.words room next c.in_ok-insert.ensures.updates)
+    (class_object_kept (seen c.self.inside) c.self.inside.words c.self.inside.literals c.self.inside.class_objects.items c.put.new.index.items CLASS c.args.class c.next_number-number.result c.args.words c.self.invariant absent c.requires.words room next c.in_ok-put.ensures.put)

@@ -20,4 +20,4 @@ invariant_of-self-2 c =
     ∙ ap (λ (o : Object). c.self.inside.objects.items ++ o ∷ []) object in
     let key = c.in_ok-key.ensures.items ∙ c.as_slice.ensures in
     rw objects
-    (literal_kept (seen c.self.inside) c.self.inside.words c.self.inside.literals c.insert.new.self c.self.inside.class_objects STRING c.args.units.now c.in_ok-key.key.items c.next_number-number.result c.args.words c.self.invariant absent c.requires.words room next key c.in_ok-insert.ensures.updates)
+    (literal_kept (seen c.self.inside) c.self.inside.words c.self.inside.literals c.insert.new.self c.self.inside.class_objects.items STRING c.args.units.now c.in_ok-key.key.items c.next_number-number.result c.args.words c.self.invariant absent c.requires.words room next key c.in_ok-insert.ensures.updates)

@@ -1,32 +1,53 @@
-use Rattle.std.proofs.Common.{◌≡◌, ℕ, ◌+◌, ◌-◌, ◌≤◌, ◌++◌, sym, subst, arith, ap, ◌∙◌, List, length, Some}
-use Rattle.std.specs.Prelude.{slice_get}
-use Rattle.java_heap.specs.declared.object.Content.TheVariants.{Text}
-use Rattle.java_heap.specs.Heaps.{HeapValue, IsThere, IsBuilder, words_taken}
-use Rattle.java_heap.specs.Changes.{put_behind}
+use Rattle.std.proofs.Common.{◌+◌, ◌≤◌, length, sym, ap, ◌∙◌, subst, arith}
+use Rattle.java_heap.specs.declared.object.Content.{Content}
+use Rattle.java_heap.specs.declared.object.Object.{Object}
+use Rattle.java_heap.specs.Heaps.{HeapValue, words_taken}
 use Rattle.java_heap.specs.Inside.{seen}
-use Rattle.java_heap.proofs.Numbers.{read_at, builder_there}
-use Rattle.java_heap.proofs.Replaced.{kept_replaced, text_may_grow, with_content-replaced}
+use Rattle.java_heap.proofs.Numbers.{stands_at}
+use Rattle.java_heap.proofs.Replaced.{replaced-same}
+use Rattle.java_heap.proofs.Grown.{OnErr-always, is_text_at-stands, kept_grown, kept_other, with_more-replaced}
 use Rattle.java_heap.proofs.heap.Heap.append.Goals as goal
 
-there : (c : goal.After-self-2-1) → IsThere (seen c.self.inside) c.args.object
-there c = builder_there (seen c.self.inside) c.args.object (subst (λ (heap : HeapValue). IsBuilder heap c.args.object) (sym c.self.view_is) c.requires.builder)
+pub returns-in_err-append-clause-err : goal.returns-in_err-append-clause-err
+returns-in_err-append-clause-err c =
+    let heap = seen c.self.inside in
+    let stands = stands_at heap c.args.self.now c.args.object c.in-Some.place c.index_mut.result.now c.self.view_is c.in-Some.ensures c.index_mut.ensures.value in
+    let same = ap (λ (content : Content). let o : Object = record c.index_mut.result.now { content = content } in o) c.in_err-append.ensures.err in
+    OnErr-always c.from_residual-in_err-append.result (replaced-same heap c.args.object c.in-Some.place c.index_mut.result.now stands _ same ∙ c.self.view_is)
 
-found : (c : goal.After-self-2-1) → slice_get c.self.inside.objects.items (c.args.object.0 - 1) ≡ Some c.index_mut.result.now
-found c = read_at (seen c.self.inside) c.args.object c.index_mut.result.now (there c) c.index_mut.ensures.value
+pub invariant_of-self-then-not-branch : goal.invariant_of-self-then-not-branch
+invariant_of-self-then-not-branch c =
+    let heap = seen c.self.inside in
+    let stands = stands_at heap c.args.self.now c.args.object c.in-Some.place c.index_mut.result.now c.self.view_is c.in-Some.ensures c.index_mut.ensures.value in
+    kept_other heap c.args.object c.in-Some.place c.index_mut.result.now stands c.self.inside.words c.self.inside.literals c.self.inside.class_objects.items c.args.units.now c.append.new.self c.in_ok-append.ensures.grown c.self.invariant (sym c.in_ok-append.ensures.text ∙ c.if-not-branch.true)
 
-grown : (c : goal.After-self-2-1) → c.append.new.self ≡ c.in-Text.text ++ c.args.units.now
-grown c = c.in_ok-append-in-Text.ensures.ok ∙ ap (λ (units : List ℕ). c.in-Text.text ++ units) c.as_slice-in-Text.ensures
+pub returns-then-not-branch-clause-grown : goal.returns-then-not-branch-clause-grown
+returns-then-not-branch-clause-grown c =
+    let heap = seen c.self.inside in
+    let stands = stands_at heap c.args.self.now c.args.object c.in-Some.place c.index_mut.result.now c.self.view_is c.in-Some.ensures c.index_mut.ensures.value in
+    rw (← c.self.view_is) (with_more-replaced heap c.args.object c.in-Some.place c.index_mut.result.now stands c.args.units.now c.append.new.self c.in_ok-append.ensures.grown)
+
+pub returns-then-not-branch-clause-text : goal.returns-then-not-branch-clause-text
+returns-then-not-branch-clause-text c =
+    let heap = seen c.self.inside in
+    let stands = stands_at heap c.args.self.now c.args.object c.in-Some.place c.index_mut.result.now c.self.view_is c.in-Some.ensures c.index_mut.ensures.value in
+    rw (← c.self.view_is) (sym c.if-not-branch.true ∙ c.in_ok-append.ensures.text ∙ sym (is_text_at-stands heap c.args.object c.in-Some.place c.index_mut.result.now stands))
 
 pub invariant_of-self-2 : goal.invariant_of-self-2
 invariant_of-self-2 c =
     let heap = seen c.self.inside in
-    let long : length c.as_slice.result.now ≡ length c.args.units.now = ap length c.as_slice.ensures in
-    let room_seen : words_taken c.args.self.now + length c.args.units.now ≤ c.args.self.now.limit = omega (arith, c.in_ok-words.ensures.1, long) in
-    let room = subst (λ (heap : HeapValue). words_taken heap + length c.args.units.now ≤ heap.limit) (sym c.self.view_is) room_seen in
-    let may = text_may_grow heap (c.args.object.0 - 1) c.index_mut.result.now c.in-Text.text c.append.new.self c.args.units.now c.self.invariant.sound (found c) c.in-Text.is (grown c) room in
-    kept_replaced heap c.self.inside.words c.self.inside.literals c.self.inside.class_objects (c.args.object.0 - 1) c.index_mut.result.now _ (length c.args.units.now) c.self.invariant may (c.self.inside.words + c.in_ok-words.words) (omega (arith, c.in_ok-words.ensures.0, long))
+    let stands = stands_at heap c.args.self.now c.args.object c.in-Some.place c.index_mut.result.now c.self.view_is c.in-Some.ensures c.index_mut.ensures.value in
+    let room = subst (λ (h : HeapValue). words_taken h + length c.args.units.now ≤ h.limit) (sym c.self.view_is) c.in_ok-words.ensures.1 in
+    kept_grown heap c.args.object c.in-Some.place c.index_mut.result.now stands c.self.inside.words c.self.inside.literals c.self.inside.class_objects.items c.args.units.now c.append.new.self c.in_ok-append.ensures.grown c.self.invariant (sym c.in_ok-append.ensures.text ∙ c.if-not-branch.false) room (c.self.inside.words + c.in_ok-words.words) (omega (arith, c.in_ok-words.ensures.0))
 
 pub returns-clause-grown : goal.returns-clause-grown
 returns-clause-grown c =
-    let changed = ap (put_behind c.args.units.now) c.in-Text.is ∙ ap (λ (units : List ℕ). Text units) (sym (grown c)) in
-    rw (← c.self.view_is) (sym (with_content-replaced (seen c.self.inside) c.args.object c.index_mut.result.now (put_behind c.args.units.now) (Text c.append.new.self) (there c).0 (found c) changed))
+    let heap = seen c.self.inside in
+    let stands = stands_at heap c.args.self.now c.args.object c.in-Some.place c.index_mut.result.now c.self.view_is c.in-Some.ensures c.index_mut.ensures.value in
+    rw (← c.self.view_is) (with_more-replaced heap c.args.object c.in-Some.place c.index_mut.result.now stands c.args.units.now c.append.new.self c.in_ok-append.ensures.grown)
+
+pub returns-clause-text : goal.returns-clause-text
+returns-clause-text c =
+    let heap = seen c.self.inside in
+    let stands = stands_at heap c.args.self.now c.args.object c.in-Some.place c.index_mut.result.now c.self.view_is c.in-Some.ensures c.index_mut.ensures.value in
+    rw (← c.self.view_is) (sym c.if-not-branch.false ∙ c.in_ok-append.ensures.text ∙ sym (is_text_at-stands heap c.args.object c.in-Some.place c.index_mut.result.now stands))

@@ -11,7 +11,7 @@ pub invariant_of-self : goal.invariant_of-self
 invariant_of-self c =
     let here = stands c.self.inside c.args.object c.in_ok-key.key _ c.self.invariant c.in_ok-key.ensures.place c.index_mut-monitor.ensures.value in
     let unused = sym c.is_free.ensures ∙ c.if-is_free.true in
-    (IsTable-removed here c.remove.new.self c.remove-then-is_free.new.self _ c.exit.ensures unused c.remove.ensures.updates c.remove-then-is_free.ensures.updates).indexed
+    (IsTable-removed here c.clear.new.places.items c.remove.new.self _ c.exit.ensures unused c.clear.ensures c.remove.ensures.updates).indexed
 
 pub invariant_of-self-else-is_free : goal.invariant_of-self-else-is_free
 invariant_of-self-else-is_free c =
@@ -22,7 +22,7 @@ pub returns-then-is_free-clause-left : goal.returns-then-is_free-clause-left
 returns-then-is_free-clause-left c =
     let here = stands c.self.inside c.args.object c.in_ok-key.key _ c.self.invariant c.in_ok-key.ensures.place c.index_mut-monitor.ensures.value in
     let unused = sym c.is_free.ensures ∙ c.if-is_free.true in
-    rw (← c.self.view_is) (IsTable-removed here c.remove.new.self c.remove-then-is_free.new.self _ c.exit.ensures unused c.remove.ensures.updates c.remove-then-is_free.ensures.updates).shows
+    rw (← c.self.view_is) (IsTable-removed here c.clear.new.places.items c.remove.new.self _ c.exit.ensures unused c.clear.ensures c.remove.ensures.updates).shows
 
 pub returns-else-is_free-clause-left : goal.returns-else-is_free-clause-left
 returns-else-is_free-clause-left c =
