@@ -157,7 +157,7 @@ pub fn instrs(
         at,
     };
     let code = front(len, bytes);
-    let mut list = Items::new(alloc);
+    let mut list = Items::from_vec(Vec::with_capacity(alloc, code.len() / 2)?);
     let mut rest = code;
     'code: while !rest.is_empty() {
         let pc = code.len() - rest.len();

@@ -23,7 +23,7 @@ pub trait ReadItem {
         ensures { Reads result (finds self.now end bytes.now) };
 }
 
-/// So many items, one after the other.
+/// So many items, one after the other. Room is made for all of them first, but for no more than there are bytes.
 fn many<'a, R: ReadItem>(
     alloc: Global,
     reader: &R,
@@ -33,7 +33,8 @@ fn many<'a, R: ReadItem>(
 ) -> Result<(Items<R::Item>, &'a [u8]), ReadClassFault>
     ensures { Reads result (many (R.finds reader.now end) count bytes.now) }
 {
-    let mut items = Items::new(alloc);
+    let most = usize::from(count).min(bytes.len());
+    let mut items = Items::from_vec(Vec::with_capacity(alloc, most)?);
     let mut rest = bytes;
     'items: for _ in 0..count {
         let (item, behind) = reader.read(alloc, end, rest)?;

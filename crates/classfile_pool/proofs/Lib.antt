@@ -4,7 +4,7 @@ pub mod PoolLaws
 pub mod Texts
 pub mod Places
 pub mod PoolSizes
-pub mod TextPlaces
 pub mod NeverMemory
 pub mod Stays
 pub mod TextFaults
+pub mod TextMarks

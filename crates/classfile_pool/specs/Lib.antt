@@ -1,4 +1,3 @@
 pub mod PoolReading
 pub mod TextRoles
-pub mod Ranks
 pub mod TextLaws

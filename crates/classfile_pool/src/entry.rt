@@ -111,7 +111,8 @@ fn place<'a>(
     }
 }
 
-/// The entries of a pool of so many places, as they are read: what they name is not looked at (4.4).
+/// The entries of a pool of so many places, as they are read: what they name is not looked at (4.4). Room is made for all of
+/// them first, but for no more than there are bytes.
 pub fn places<'a>(
     alloc: Global,
     end: usize,
@@ -120,7 +121,8 @@ pub fn places<'a>(
 ) -> Result<(Items<Const>, &'a [u8]), ReadClassFault>
     ensures { Reads result (places end false count bytes.now) }
 {
-    let mut entries = Items::new(alloc);
+    let most = usize::from(count).min(bytes.len());
+    let mut entries = Items::from_vec(Vec::with_capacity(alloc, most)?);
     let mut rest = bytes;
     let mut second = false;
     'places: for i in 0..count {

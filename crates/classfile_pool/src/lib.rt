@@ -5,7 +5,6 @@
 mod entry;
 mod laws;
 mod pool;
-mod ranks;
 mod references;
 mod roles;
 mod text;

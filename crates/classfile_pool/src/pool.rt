@@ -3,12 +3,10 @@ ghost use Rattle.jv_names.specs.Names.{is_class_name};
 ghost use Rattle.class_tree.specs.Tree.{entry_at, text_at, class_at, names_class};
 ghost use Rattle.class_tree.specs.PoolRules.{is_name, desc_flaw, class_text_flaw, kind_of, names_pair};
 ghost use Rattle.classfile_pool.specs.TextRoles.{roles_of};
-ghost use Rattle.classfile_pool.specs.Ranks.{rank_at, noted_at};
 ghost use Rattle.classfile_items.specs.Reading.{Reads};
 ghost use Rattle.classfile_pool.specs.PoolReading.{pool_at};
 
 use crate::entry::places;
-use crate::ranks::ranks;
 use crate::references::entries_fault;
 use crate::roles::{Roles, all_roles};
 use class_tree::{Const, MemberKind};
@@ -24,20 +22,18 @@ use std::marker::Model;
 pub struct Pool {
     entries: Items<Const>,
     roles: Items<Option<Roles>>,
-    ranks: Items<Option<usize>>,
 }
 
 impl Model for Pool {
     ghost use Rattle.std.specs.Prelude.{◌≡◌, List, map};
     ghost use Rattle.class_tree.specs.declared.pool.Const.{Const};
     ghost use Rattle.classfile_pool.specs.TextRoles.{roles_at};
-    ghost use Rattle.classfile_pool.specs.Ranks.{entry_rank};
 
     ghost Value = { List Const };
 
     ghost view = { λ pool. pool.entries };
 
-    ghost invariant = { λ pool. (pool.roles ≡ map roles_at pool.entries) × (pool.ranks ≡ map (entry_rank pool.entries) pool.entries) };
+    ghost invariant = { λ pool. pool.roles ≡ map roles_at pool.entries };
 }
 
 impl Pool {
@@ -46,12 +42,7 @@ impl Pool {
         ensures { IfOk result (λ pool. pool ≡ entries) }
     {
         let roles = all_roles(alloc, entries.as_slice())?;
-        let ranks = ranks(alloc, entries.as_slice())?;
-        Ok(Pool {
-            entries,
-            roles,
-            ranks,
-        })
+        Ok(Pool { entries, roles })
     }
 
     /// The entries in the order of the file.
@@ -97,28 +88,6 @@ impl Pool {
             return None;
         }
         *self.roles.get(usize::from(index) - 1)?
-    }
-
-    #[tactic(auto, using(crate::proofs::TextPlaces::rank_read, crate::proofs::TextPlaces::rank_missing))]
-    fn noted_rank(&self, index: u16) -> Option<usize>
-        ensures { result ≡ noted_at self.now index }
-    {
-        if index == 0 {
-            return None;
-        }
-        match self.ranks.get(usize::from(index) - 1) {
-            Some(rank) => *rank,
-            None => None,
-        }
-    }
-
-    /// A number of the text at an index: the first place of this text in the pool, from 0 on. So equal texts have equal
-    /// numbers, and others don't. `None` where no text stands there.
-    #[tactic(auto, using(crate::proofs::TextPlaces::rank_told))]
-    pub fn rank_at(&self, index: u16) -> Option<usize>
-        ensures { result ≡ rank_at self.now index }
-    {
-        self.noted_rank(index)
     }
 
     /// Whether the text at an index may be the name of a member of a kind (4.2.2). `None` where no text stands there.

@@ -19,11 +19,7 @@ use jv_names::DescFlaw;
 fn unit_len(unit: u16) -> usize
     ensures { result ≡ length (unit_bytes unit) }
 {
-    match unit {
-        0x01..=0x7f => 1,
-        0 | 0x80..=0x7ff => 2,
-        _ => 3,
-    }
+    1 + usize::from((unit == 0) | (unit > 0x7f)) + usize::from(unit > 0x7ff)
 }
 
 /// How many bytes spell a text (4.4.7).

@@ -159,8 +159,9 @@ fn class_from(alloc: Global, end: usize, bytes: &[u8]) -> Result<Parts, ReadClas
 /// tags and the indices of classes are looked at, not where its entries lie; which access flags go together is not.
 ///
 /// An `Err` is the first fault that shows when the bytes are read in order, or that memory ran out. The time is linear in the
-/// bytes, but for look-ups among a pool's texts, a class's members and a code's instructions, which take logarithmic time
-/// each. The memory is linear in the bytes.
+/// bytes, but for look-ups among a class's members, among the texts that name them and among a code's instructions, which take
+/// a logarithmic number of comparisons each. A text is looked for by its units once for each index that names a member by it.
+/// The memory is linear in the bytes.
 pub fn read_class(alloc: Global, bytes: &[u8]) -> Result<ClassFile, ReadClassFault>
     // What is read is spelled so.
     ensures found { IfOk result (λ class. Spells class bytes.now) }

@@ -5,6 +5,7 @@ mod attrs;
 mod class;
 mod laws;
 mod members;
+mod seen;
 
 pub use class::read_class;
 pub use classfile_items::ReadClassFault;

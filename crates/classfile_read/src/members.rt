@@ -1,20 +1,20 @@
-ghost use Rattle.std.specs.Prelude.{◌≡◌, [], ◌∷◌, IfOk, IsSome, not, length, filter};
+ghost use Rattle.std.specs.Prelude.{◌≡◌, [], ◌∷◌, IfOk, length, filter};
 ghost use Rattle.class_tree.specs.Flags.{has_flag};
 ghost use Rattle.class_tree.specs.Tree.{text_at};
 ghost use Rattle.class_tree.specs.WellFormed.{owner_of, is_body, has_its_body};
 ghost use Rattle.classfile_items.specs.Reading.{Mirrors, Reads};
-ghost use Rattle.classfile_read.specs.ClassReading.{flags_at, name_at, desc_at, is_among, member, members_from, members};
+ghost use Rattle.classfile_read.specs.ClassReading.{flags_at, name_at, desc_at, member, members_from, members};
 ghost use Rattle.classfile_read.specs.Owners.{owner_seen};
-ghost use Rattle.classfile_read.specs.Repeats.{Remembers, OfNames, names_at, names_of};
+ghost use Rattle.classfile_read.specs.Repeats.{Remembers, OfNames, names_of};
 
 use crate::attrs::{AttrReader, Owner};
+use crate::seen::SeenNames;
 use class_tree::{Attr, Flag, Flags, Member, MemberKind};
 use classfile_items::{ReadClassFault, counted, offset, text_index, u2};
 use classfile_pool::Pool;
 use jv_names::{DescFlaw, Units};
 use sqlite_items::Items;
-use std::alloc::{AllocError, Global};
-use std::collections::BTreeSet;
+use std::alloc::Global;
 
 /// Reads the fields or the methods of a class (4.5 and 4.6).
 #[derive(Drop)]
@@ -73,23 +73,6 @@ fn desc_at<'p, 'a>(
     }
 }
 
-/// Notes the name and the descriptor of a member, by their indices, and tells whether no member before had both.
-fn is_first(
-    seen: &mut BTreeSet<(usize, usize)>,
-    pool: &Pool,
-    name: u16,
-    desc: u16,
-) -> Result<bool, AllocError>
-    requires named { IsSome (text_at pool.now name) }
-    requires described { IsSome (text_at pool.now desc) }
-
-    ensures told { OfNames pool.now seen.old (λ earlier. IfOk result (λ first. first ≡ not (is_among (names_at pool.now name desc) earlier))) }
-    ensures remembered { OfNames pool.now seen.old (λ earlier. IfOk result (λ _. Remembers pool.now seen.new (names_at pool.now name desc ∷ earlier))) }
-{
-    let ranks = (pool.rank_at(name).unwrap(), pool.rank_at(desc).unwrap());
-    Ok(seen.insert(ranks)?)
-}
-
 fn owner_of(kind: MemberKind, bits: u16, desc: &Units) -> Owner<'_>
     ensures { owner_seen result ≡ owner_of kind bits desc.now }
 {
@@ -127,11 +110,11 @@ fn has_its_body(kind: MemberKind, bits: u16, attrs: &[Attr]) -> bool
 
 /// A field or a method behind others, of which `seen` has the names and descriptors, and the bytes behind it. It is
 /// noted there too.
-fn member<'a>(
+fn member<'p, 'a>(
     alloc: Global,
-    reader: &MemberReader<'_>,
+    reader: &MemberReader<'p>,
     end: usize,
-    seen: &mut BTreeSet<(usize, usize)>,
+    seen: &mut SeenNames<'p>,
     bytes: &'a [u8],
 ) -> Result<(Member, &'a [u8]), ReadClassFault>
     // It is what stands behind members of the names that `seen` tells, and `seen` tells its own then too.
@@ -142,7 +125,7 @@ fn member<'a>(
     let (bits, rest) = flags_at(kind, end, bytes)?;
     let (name, _, rest) = name_at(pool, kind, end, rest)?;
     let (desc, text, rest) = desc_at(pool, kind, end, rest)?;
-    if !is_first(seen, pool, name, desc)? {
+    if !seen.insert(pool, name, desc)? {
         return Err(ReadClassFault::Duplicate(offset(end, bytes)));
     }
     let owner = owner_of(kind, bits, text);
@@ -172,7 +155,7 @@ fn members_from<'a>(
 ) -> Result<(Items<Member>, &'a [u8]), ReadClassFault>
     ensures { let r = reader.now in Mirrors (λ x. (x.0, x.1.now)) result (members_from r.major r.pool.now end r.kind [] count bytes.now) }
 {
-    let mut seen = BTreeSet::new(alloc);
+    let mut seen = SeenNames::new(alloc, reader.pool)?;
     let mut members = Items::new(alloc);
     let mut rest = bytes;
     'members: for _ in 0..count {

@@ -40,7 +40,7 @@ impl WriteItem for CodeAttr {
         match self {
             Self::Raw { name, bytes } => put_named(out, *name, bytes.as_slice()),
             Self::Frames { name, entries } => {
-                let mut content = Vec::new(alloc);
+                let mut content = Vec::with_capacity(alloc, entries.len().saturating_mul(4))?;
                 put_counted(alloc, &mut content, entries.as_slice())?;
                 put_named(out, *name, &content)
             }

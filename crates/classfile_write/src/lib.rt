@@ -7,6 +7,7 @@ mod item;
 mod members;
 mod number;
 mod pool;
+mod text;
 mod write;
 
 pub use write::write_class;

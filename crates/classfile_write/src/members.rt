@@ -18,7 +18,7 @@ impl WriteItem for Attr {
         match self {
             Self::Raw { name, bytes } => put_named(out, *name, bytes.as_slice()),
             Self::Body { name, code } => {
-                let mut content = Vec::new(alloc);
+                let mut content = Vec::with_capacity(alloc, code.bytes.len().saturating_add(256))?;
                 put_code(alloc, &mut content, code)?;
                 put_named(out, *name, &content)
             }

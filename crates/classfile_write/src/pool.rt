@@ -1,24 +1,13 @@
 ghost use Rattle.std.specs.Prelude.{◌≡◌, ◌+◌, ◌<◌, ◌∷◌, ◌++◌, ◌^◌, true, length, OnOk};
 ghost use Rattle.std.specs.List.{list_all};
-ghost use Rattle.jv_names.specs.Utf8.{utf8};
 ghost use Rattle.class_tree.specs.Spelling.{u2, const_bytes, pool_bytes};
 ghost use Rattle.classfile_write.specs.Fits.{const_fits};
 
 use crate::item::{WriteItem, put_all};
 use crate::number::{put_tagged, put_u2, put_u4, put_u8};
+use crate::text::put_text;
 use class_tree::Const;
-use jv_names::{Units, utf8_of};
 use std::alloc::{AllocError, Global};
-
-fn put_text(alloc: Global, out: &mut Vec<u8>, text: &Units) -> Result<(), AllocError>
-    requires { length (utf8 text.now) < 2 ^ 16 }
-    ensures { OnOk result (out.new.items ≡ out.old.items ++ 1 ∷ (u2 (length (utf8 text.now)) ++ utf8 text.now)) }
-{
-    let bytes = utf8_of(alloc, text)?;
-    put_tagged(out, 1, bytes.len() as u16)?;
-    out.extend_from_slice(&bytes)?;
-    Ok(())
-}
 
 /// A tag, and two numbers of two bytes.
 fn put_pair(out: &mut Vec<u8>, tag: u8, first: u16, second: u16) -> Result<(), AllocError>
@@ -33,9 +22,9 @@ impl WriteItem for Const {
 
     ghost fits = { const_fits };
 
-    fn put(&self, alloc: Global, out: &mut Vec<u8>) -> Result<(), AllocError> {
+    fn put(&self, _alloc: Global, out: &mut Vec<u8>) -> Result<(), AllocError> {
         match self {
-            Self::Utf8(text) => put_text(alloc, out, text)?,
+            Self::Utf8(text) => put_text(out, text)?,
             Self::Integer(value) => {
                 out.push(3)?;
                 put_u4(out, value.cast_unsigned())?;

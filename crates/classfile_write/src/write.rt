@@ -26,7 +26,7 @@ pub fn write_class(alloc: Global, tree: &ClassFile) -> Result<Vec<u8>, AllocErro
     requires { tree.now.super_class ≢ 0 }
     ensures { IfOk result (λ bytes. bytes.items ≡ class_bytes tree.now) }
 {
-    let mut out = Vec::new(alloc);
+    let mut out = Vec::with_capacity(alloc, tree.pool.len().saturating_mul(32))?;
     out.extend_from_slice(&[0xca, 0xfe, 0xba, 0xbe])?;
     put_u2(&mut out, tree.minor)?;
     put_u2(&mut out, tree.major)?;

@@ -8,7 +8,7 @@ use Rattle.classfile_code.proofs.CodeSteps.{begun, next, fails_there, done_cut, 
 use Rattle.classfile_code.proofs.instrs.instrs.Goals as goal
 
 pub code-init : goal.code-init
-code-init c = rw c.new-list.ensures (record {
+code-init c = rw (c.from_vec-list.ensures ∙ c.in_ok-with_capacity.ensures.items) (record {
   found = begun c.args.major c.args.pool.now c.args.end c.args.len c.offset-at.result c.front-code.result.now c.args.bytes.now c.offset-at.ensures c.front-code.ensures;
   within = All-nil (λ (p : ℕ × Instr). p.0 < length c.front-code.result.now);
   shorter = omega arith;
@@ -23,7 +23,7 @@ returns-in_err-instr-clause-found c =
     let some : 0 < length rest = grind (arith, nat_tests, c.code-test.ensures) in
     let room : length code ≤ c.args.len = (length-front c.args.len code c.args.bytes.now c.front-code.ensures).0 in
     let left : c.args.len - length c.code.list ≡ suc fuel = omega (arith, c.code.invariant.shorter) in
-    let p = err_from_is_err_and c.from_residual.result c.from_residual.ensures.1 in
+    let p = err_from_is_err_and c.from_residual-in_err-instr.result c.from_residual-in_err-instr.ensures.1 in
     rw (p.1, p.2) (fails_there c.args.major c.args.pool.now c.args.end (nat_lt (length c.args.bytes.now) c.args.len) (c.offset-at.result + pc) fuel pc c.code.list rest _ c.in_err-instr.field-0.0 some (rw left at c.code.invariant.found) c.in_err-instr.ensures.found)
 
 pub code-preserved : goal.code-preserved

@@ -17,5 +17,5 @@ returns g c =
 pub returns-in_err-item : goal.returns-in_err-item
 returns-in_err-item g c =
     let item = g.R.ReadItem.finds c.args.reader.now c.args.end in
-    let p = err_from_is_err_and c.from_residual.result c.from_residual.ensures.1 in
+    let p = err_from_is_err_and c.from_residual-in_err-item.result c.from_residual-in_err-item.ensures.1 in
     rw (p.1, p.2) (many_stopped item c.args.count c.items.counter c.items.items c.items.rest.now (many item c.args.count c.args.bytes.now) c.in_err-item.field-0.0 (omega arith) c.items.invariant c.in_err-item.ensures)

@@ -9,5 +9,5 @@ places-preserved c =
 
 pub returns-in_err-entry : goal.returns-in_err-entry
 returns-in_err-entry c =
-    let p = err_from_is_err_and c.from_residual.result c.from_residual.ensures.1 in
+    let p = err_from_is_err_and c.from_residual-in_err-entry.result c.from_residual-in_err-entry.ensures.1 in
     rw (p.1, p.2) (places_stopped c.args.end c.args.count c.places.i c.places.second c.places.entries c.places.rest.now _ c.in_err-entry.field-0.0 (omega arith) c.places.invariant c.in_err-entry.ensures)

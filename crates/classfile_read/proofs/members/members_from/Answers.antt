@@ -6,7 +6,7 @@ use Rattle.classfile_read.proofs.members.members_from.Goals as goal
 pub members-init : goal.members-init
 members-init c =
     let r = c.args.reader.now in
-    none_read r.major r.pool.now c.args.end r.kind c.args.count c.args.bytes.now c.new-seen.result c.new-members.result c.new-seen.ensures.empty c.new-members.ensures
+    none_read r.major r.pool.now c.args.end r.kind c.args.count c.args.bytes.now c.in_ok-seen.seen c.new-members.result c.in_ok-seen.ensures c.new-members.ensures
 
 pub members-preserved : goal.members-preserved
 members-preserved c =
@@ -25,6 +25,6 @@ pub returns-in_err-member : goal.returns-in_err-member
 returns-in_err-member c =
     let r = c.args.reader.now in
     let before = c.members.invariant in
-    let p = err_from_is_err_and c.from_residual.result c.from_residual.ensures.1 in
+    let p = err_from_is_err_and c.from_residual-in_err-member.result c.from_residual-in_err-member.ensures.1 in
     rw (p.1, p.2) (next_stopped r.major r.pool.now c.args.end r.kind c.args.count c.members.counter c.args.bytes.now c.members.rest.now c.members.seen c.members.members c.in_err-member.field-0.0 before (omega arith)
     (c.in_err-member.ensures.read before.earlier before.remembers))
