@@ -5,7 +5,7 @@ use Rattle.std.specs.Option.{option_map_or}
 use Rattle.std.specs.Str.{is_utf8}
 use Rattle.ti_ids.specs.Maybe.{◌>>=◌}
 use Rattle.jv_names.specs.Names.{Name}
-use Rattle.toml.specs.Data.{Data, string, integer, boolean, Members, get_member, as_str, as_integer, as_bool}
+use Rattle.toml.specs.Data.{Data, string, integer, Members, get_member, as_str, as_integer, as_bool}
 use Rattle.toml.specs.Parse.{parse_document}
 use Rattle.ti_codes.specs.declared.capability.Capability.{Capability}
 use Rattle.ti_codes.specs.declared.event.EventKind.{EventKind}
