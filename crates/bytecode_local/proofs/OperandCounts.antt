@@ -46,12 +46,6 @@ pub words_of_part : (given entries : List Value) (i : ℕ) → words_of (drop i 
 words_of_part given entries i =
     omega (arith, sum_by-append value_words given entries, sum_by-append value_words (drop i given) entries, sum_by-take-drop value_words given i)
 
--- one operand less
-pub drop_one_more : (values : List Value) (i : ℕ) → drop 1 (drop i values) ≡ drop (i + 1) values
-drop_one_more values zero = refl
-drop_one_more [] (suc i) = rw add-one refl
-drop_one_more (v ∷ values) (suc i) = rw (add-one) (drop_one_more values i ∙ rw add-one refl)
-
 -- one operand more, from the last to the first
 pub one_more_put : (given entries : List Value) (i : ℕ) (v : Value) → i < length given → v ≡ slice_index_or given i v → v ∷ (drop (i + 1) given ++ entries) ≡ drop i given ++ entries
 one_more_put given entries i v within at =

@@ -4,9 +4,8 @@ ghost use Rattle.bytecode_local.specs.Changes.{exchange, storing, jumping, chang
 ghost use Rattle.bytecode_local.specs.Constants.{pushing};
 
 use crate::locals::{has_places, store, value_words};
-use sqlite_items::Items;
 use std::marker::Model;
-use thread_frames::{Frame, Operands};
+use thread_frames::{Frame, Locals, Operands};
 use ti_ids::{Announced, Value};
 
 /// How many operands an instruction puts on the operand stack at most: `dup2_x2` six.
@@ -156,7 +155,7 @@ fn has_room(change: &Change, stack: &Operands) -> bool
 }
 
 /// Whether the local variables are there that a change stores into.
-fn stores_within(change: &Change, locals: &Items<Value>) -> bool
+fn stores_within(change: &Change, locals: &Locals) -> bool
     ensures { result ≡ stores_within change.now.stored locals.now }
 {
     match change.stored {
@@ -170,16 +169,6 @@ pub(crate) fn can_take<P>(frame: &Frame<P>, change: &Change) -> bool
     ensures { result ≡ can_take frame.now change.now }
 {
     has_room(change, &frame.stack) && stores_within(change, &frame.locals)
-}
-
-/// Takes so many of the topmost operands away.
-#[tactic(auto, using(crate::proofs::OperandCounts::drop_one_more))]
-fn drop_top(stack: &mut Operands, count: u8)
-    ensures { stack.new ≡ record { entries = drop count stack.old.entries; room = stack.old.room } }
-{
-    for _dropped in 0..count {
-        stack.pop();
-    }
 }
 
 /// Puts these operands on top, of which the first is the new top.
@@ -201,7 +190,7 @@ pub(crate) fn apply<P: Drop>(change: Change, pc: u16, frame: Frame<P>) -> Frame<
     ensures { result ≡ changed frame change pc }
 {
     let mut frame = frame;
-    drop_top(&mut frame.stack, change.taken);
+    frame.stack.drop_top(usize::from(change.taken));
     push_all(&mut frame.stack, change.given.as_slice());
     if let Some((place, value)) = change.stored {
         store(&mut frame.locals, place, value);

@@ -6,8 +6,7 @@ ghost use Rattle.bytecode_local.specs.Locals.{loaded, stored, incremented};
 use crate::change::Change;
 use crate::kinds::{is_category_two, is_kind, kind_at};
 use class_code::Kind;
-use sqlite_items::Items;
-use thread_frames::Operands;
+use thread_frames::{Locals, Operands};
 use ti_ids::Value;
 
 /// How many words a value takes: as many local variables, and as much room of an operand stack.
@@ -21,23 +20,23 @@ pub(crate) fn value_words(value: Value) -> usize
 }
 
 /// Whether each local variable is there that a value takes from this one on.
-pub(crate) fn has_places(locals: &Items<Value>, place: u16, value: Value) -> bool
+pub(crate) fn has_places(locals: &Locals, place: u16, value: Value) -> bool
     ensures { result ≡ has_places locals.now place value }
 {
     place as usize + value_words(value) <= locals.len()
 }
 
-fn has_long(locals: &Items<Value>, place: usize) -> bool
+fn has_long(locals: &Locals, place: usize) -> bool
     ensures { result ≡ has_long locals.now place }
 {
     match locals.get(place) {
-        Some(value) => is_category_two(*value),
+        Some(value) => is_category_two(value),
         None => false,
     }
 }
 
 /// Stores a value in one local variable, and the int 0 in the other one of each long that had it.
-fn store_one(locals: &mut Items<Value>, place: usize, value: Value)
+fn store_one(locals: &mut Locals, place: usize, value: Value)
     requires { place < length locals.old }
     ensures { locals.new ≡ with_one locals.old place value }
 {
@@ -51,7 +50,7 @@ fn store_one(locals: &mut Items<Value>, place: usize, value: Value)
 }
 
 /// Stores a value: a long in two local variables.
-pub(crate) fn store(locals: &mut Items<Value>, place: u16, value: Value)
+pub(crate) fn store(locals: &mut Locals, place: u16, value: Value)
     requires { IsTrue (has_places locals.old place value) }
     ensures { locals.new ≡ with_value locals.old place value }
 {
@@ -63,10 +62,10 @@ pub(crate) fn store(locals: &mut Items<Value>, place: u16, value: Value)
 }
 
 /// What a load changes.
-pub(crate) fn load_change(kind: Kind, place: u16, locals: &Items<Value>) -> Option<Change>
+pub(crate) fn load_change(kind: Kind, place: u16, locals: &Locals) -> Option<Change>
     ensures { result ≡ loaded kind place locals.now }
 {
-    let value = *locals.get(place as usize)?;
+    let value = locals.get(place as usize)?;
     if is_kind(kind, value) && has_places(locals, place, value) {
         Some(Change::pushing(value))
     } else {
@@ -84,10 +83,10 @@ pub(crate) fn store_change(kind: Kind, place: u16, stack: &Operands) -> Option<C
 
 /// What `iinc` changes.
 #[tactic(auto, using(std::proofs::lemmas::Int::wraps))]
-pub(crate) fn increment_change(place: u16, by: i32, locals: &Items<Value>) -> Option<Change>
+pub(crate) fn increment_change(place: u16, by: i32, locals: &Locals) -> Option<Change>
     ensures { result ≡ incremented place by locals.now }
 {
-    match *locals.get(place as usize)? {
+    match locals.get(place as usize)? {
         Value::Int(number) => Some(Change::storing(0, place, Value::Int(number.wrapping_add(by)))),
         _ => None,
     }

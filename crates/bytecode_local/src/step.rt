@@ -14,8 +14,7 @@ use crate::numbers::{compare_longs, compute, is_division, make_conversion};
 use crate::rearranging::rearrange;
 use crate::switches::{switch_by_lookup, switch_by_table};
 use class_code::{Instr, Simple, Slot, entry_at};
-use sqlite_items::Items;
-use thread_frames::{Frame, Operands};
+use thread_frames::{Frame, Locals, Operands};
 use ti_ids::Value;
 
 /// An offset at which no instruction of a code begins, which has at most 65,535 bytes (JVM specification 4.7.3).
@@ -64,7 +63,7 @@ fn slot_place(slot: Slot) -> u16
     }
 }
 
-fn simple_change(simple: Simple, locals: &Items<Value>, stack: &Operands) -> Option<Change>
+fn simple_change(simple: Simple, locals: &Locals, stack: &Operands) -> Option<Change>
     ensures value { result ≡ simple_change simple locals.now stack.now }
     ensures local { OnSome result (IsTrue (local_simple simple)) }
 {
@@ -83,7 +82,7 @@ fn simple_change(simple: Simple, locals: &Items<Value>, stack: &Operands) -> Opt
     }
 }
 
-fn change_of(instr: &Instr, locals: &Items<Value>, stack: &Operands) -> Option<Change>
+fn change_of(instr: &Instr, locals: &Locals, stack: &Operands) -> Option<Change>
     ensures value { result ≡ change_of instr.now locals.now stack.now }
     ensures local { OnSome result (IsTrue (local instr.now)) }
 {

@@ -1,5 +1,6 @@
 //! What the lines of a file build up.
 
+use crate::frames::Stacks;
 use crate::words::{Unanswered, number, said};
 use crate::{classes, frames, heap, local, monitors, operands};
 use java_heap::Heap;
@@ -7,7 +8,7 @@ use link_versions::Classes;
 use monitor_table::Monitors;
 use std::alloc::Global;
 use std::rt::Files;
-use thread_frames::{Operands, Stacks};
+use thread_frames::Operands;
 
 /// The value that a line's call is on.
 #[derive(Drop)]
@@ -15,7 +16,7 @@ pub enum Held {
     Nothing,
     Monitors(Monitors),
     /// The pin of a frame is its name here.
-    Stacks(Stacks<u32>),
+    Stacks(Stacks),
     Operands(Operands),
     Heap(Heap),
     Classes(Classes),

@@ -1,5 +1,5 @@
+pub mod Reversed
 pub mod OperandWords
+pub mod ArgumentWords
 pub mod StackWords
-pub mod MapViews
-pub mod StackChanges
-pub mod StackReads
+pub mod Slots

@@ -30,3 +30,8 @@ module _ {P : Type 0} where
   abbrev pub entry_words : StackEntry P → ℕ
   entry_words (Java frame) = frame_words frame
   entry_words (Init class) = 0
+
+  -- it is the frame of a method
+  abbrev pub IsJava : StackEntry P → Type 0
+  IsJava (Java frame) = Unit {0}
+  IsJava (Init class) = ⊥

@@ -1,5 +1,5 @@
 pub mod Operands
 pub mod Frame
+pub mod Arguments
 pub mod ThreadStack
-pub mod Stacks
-pub mod StackLaws
+pub mod Lends

@@ -1,9 +1,11 @@
-ghost use Rattle.std.specs.Prelude.{◌≡◌, IfOk};
-ghost use Rattle.thread_frames.specs.Frame.{new_frame, frame_words, entry_words};
+ghost use Rattle.std.specs.Prelude.{◌≡◌, IfOk, OnOk};
+ghost use Rattle.std.specs.Borrow.{sem};
+ghost use Rattle.thread_frames.specs.Arguments.{begun_frame};
+ghost use Rattle.thread_frames.specs.Frame.{new_frame, frame_words, entry_words, IsJava};
 
-use crate::Operands;
-use sqlite_items::Items;
+use crate::{Locals, Operands};
 use std::alloc::{AllocError, Global};
+use std::mem;
 use ti_ids::{Announced, ClassNo, MethodNo, Value};
 
 /// The frame of a method that a thread runs (JVM specification 2.6). Nothing is known here of its pin.
@@ -18,10 +20,23 @@ pub struct Frame<P> {
     pub pc: u16,
     /// The local variables (2.6.1), as many as the `max_locals` of the method's code. A long takes two of them: it stands in
     /// the first, and what the second one holds is left to whoever writes it.
-    pub locals: Items<Value>,
+    pub locals: Locals,
     /// The operand stack (2.6.2), with room for the `max_stack` words of the method's code.
     pub stack: Operands,
     pub announced: Announced,
+}
+
+/// What the frame of an invoked method is made of, beside its arguments.
+#[derive(Drop)]
+pub struct Invocation<P> {
+    /// The class that has the method.
+    pub class: ClassNo,
+    pub method: MethodNo,
+    pub pin: P,
+    /// How many local variables the method's code has, the places of its arguments counted.
+    pub max_locals: u32,
+    /// How many words its operand stack has room for.
+    pub max_stack: u32,
 }
 
 /// What the stack of a thread is made of: the frames of methods, and the initializations of classes that the thread runs.
@@ -49,10 +64,45 @@ impl<P: Drop> Frame<P> {
             method,
             pin,
             pc: 0,
-            locals: Items::from_vec(locals),
+            locals: Locals::from_vec(locals),
             stack,
             announced: Announced::New,
         })
+    }
+}
+
+impl<P: Copy> Frame<P> {
+    /// A frame without local variables and room. No memory is taken.
+    pub(crate) fn empty(alloc: Global, class: ClassNo, method: MethodNo, pin: P) -> Frame<P> {
+        Frame {
+            class,
+            method,
+            pin,
+            pc: 0,
+            locals: Locals::none(alloc),
+            stack: Operands::none(alloc),
+            announced: Announced::New,
+        }
+    }
+
+    /// Makes it the frame of a method that was just invoked, with these local variables, in the memory that it has, as far as that
+    /// goes.
+    pub(crate) fn begin(&mut self, call: Invocation<P>, locals: Locals) -> Result<(), AllocError>
+        ensures { OnOk result (self.new ≡ begun_frame call locals) }
+    {
+        self.stack.begin(call.max_stack)?;
+        self.class = call.class;
+        self.method = call.method;
+        self.pin = call.pin;
+        self.pc = 0;
+        self.locals = locals;
+        self.announced = Announced::New;
+        Ok(())
+    }
+
+    /// The local variables, which it then lacks.
+    pub(crate) fn take_locals(&mut self, alloc: Global) -> Locals {
+        mem::replace(&mut self.locals, Locals::none(alloc))
     }
 }
 
@@ -77,7 +127,7 @@ impl<P: Clone> Frame<P> {
             method: self.method,
             pin: self.pin.clone()?,
             pc: self.pc,
-            locals: Items::from_slice(alloc, self.locals.as_slice())?,
+            locals: Locals::from_slice(alloc, self.locals.as_slice())?,
             stack: self.stack.clone_in(alloc)?,
             announced: self.announced,
         })
@@ -85,6 +135,8 @@ impl<P: Clone> Frame<P> {
 }
 
 impl<P> StackEntry<P> {
+    ghost use Rattle.thread_frames.specs.Lends.{lends_frame};
+
     /// The words that the entry takes; an initialization takes none.
     pub fn words(&self) -> u64
         ensures { result ≡ entry_words self.now }
@@ -92,6 +144,18 @@ impl<P> StackEntry<P> {
         match self {
             StackEntry::Java(frame) => frame.words(),
             StackEntry::Init(_) => 0,
+        }
+    }
+
+    /// The frame, to write to.
+    pub(crate) fn frame_mut(&mut self) -> &mut Frame<P>
+        requires { IsJava self.old }
+        ensures* writes_back { sem 𝓛 (lends_frame P.row self.entry result) }
+        ensures value { self.old ≡ StackEntry.Java result.now }
+    {
+        match self {
+            StackEntry::Java(frame) => frame,
+            StackEntry::Init(_) => unreachable!(),
         }
     }
 }

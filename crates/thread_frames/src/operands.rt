@@ -1,5 +1,6 @@
-ghost use Rattle.std.specs.Prelude.{◌≡◌, ◌≤◌, ◌↔◌, IsTrue, IfOk, [], length, slice_get};
+ghost use Rattle.std.specs.Prelude.{◌≡◌, ◌≤◌, ◌<◌, ◌↔◌, IsTrue, IfOk, OnOk, [], length, slice_get, slice_set};
 ghost use Rattle.thread_frames.specs.Operands.{words_of, Fits, value_words, empty_stack, with_pushed, without_top};
+ghost use Rattle.thread_frames.specs.Arguments.{topmost, without_topmost};
 
 use std::alloc::{AllocError, Global};
 use std::marker::Model;
@@ -49,6 +50,28 @@ impl Operands {
         })
     }
 
+    /// An empty stack without room. No memory is taken.
+    pub(crate) fn none(alloc: Global) -> Operands
+        ensures { result ≡ empty_stack 0 }
+    {
+        Operands {
+            values: Vec::new(alloc),
+            room: 0,
+            words: 0,
+        }
+    }
+
+    /// Makes it an empty stack with room for so many words, in the memory that it has, as far as that goes. After an `Err` it has
+    /// the room that it had.
+    pub(crate) fn begin(&mut self, room: u32) -> Result<(), AllocError>
+        ensures { OnOk result (self.new ≡ empty_stack room) }
+    {
+        self.clear();
+        self.values.reserve(room as usize)?;
+        self.room = room;
+        Ok(())
+    }
+
     /// Whether there is room for a value on top.
     pub fn fits(&self, value: Value) -> bool
         ensures { IsTrue result ↔ Fits self.now value }
@@ -91,6 +114,52 @@ impl Operands {
             return None;
         }
         Some(self.values[count - 1 - depth])
+    }
+
+    /// Puts a value in the place of the entry that lies so many below the top.
+    pub fn set(&mut self, depth: usize, value: Value)
+        requires within { depth < length self.old.entries }
+        requires fits { words_of (slice_set self.old.entries depth value) ≤ self.old.room }
+        ensures { self.new ≡ record self.old { entries = slice_set self.old.entries depth value } }
+    {
+        let place = self.values.len() - 1 - depth;
+        let old = self.values[place];
+        self.words = self.words - words_of_value(old) + words_of_value(value);
+        self.values[place] = value;
+    }
+
+    /// The topmost entries, so many, of which the last lies on top; all of them, where there are no more.
+    pub fn topmost(&self, count: usize) -> &[Value]
+        ensures { result.now ≡ topmost count self.now }
+    {
+        let below = self.values.len().saturating_sub(count);
+        &self.values[below..]
+    }
+
+    /// How many words the topmost entries take, so many; all of them, where there are no more. The time is linear in their number.
+    #[tactic(auto, using(std::proofs::lemmas::List::Sums::sum_by_more, std::proofs::lemmas::List::Sums::sum_by_more_le, crate::proofs::ArgumentWords::topmost_within, crate::proofs::ArgumentWords::topmost_all))]
+    pub fn words_of_top(&self, count: usize) -> u32
+        ensures { result ≡ words_of (topmost count self.now) }
+    {
+        let all = self.words();
+        if count >= self.len() {
+            return all;
+        }
+        let mut words = 0;
+        for value in self.topmost(count) {
+            words += words_of_value(*value);
+        }
+        words
+    }
+
+    /// Takes the topmost entries away, so many; all of them, where there are no more. The time is linear in their number.
+    #[tactic(auto, using(crate::proofs::Reversed::drop_one_more))]
+    pub fn drop_top(&mut self, count: usize)
+        ensures { self.new ≡ without_topmost count self.old }
+    {
+        for _dropped in 0..count.min(self.values.len()) {
+            self.pop();
+        }
     }
 
     /// Takes all entries away.
