@@ -8,7 +8,9 @@ use Rattle.jv_names.specs.TextReading.{unit_at}
 use Rattle.jv_names.specs.DescriptorReading.{class_end, dimensions, split_class, split_dimensions, read_class, read_element, read_type}
 use Rattle.jv_names.specs.DescriptorFlaws.{read_field, read_result, read_method, field_flaw, method_flaw}
 use Rattle.class_code.specs.FormSearch.{form_at}
+use Rattle.class_code.specs.Spelling as code_spelling
 use Rattle.class_tree.specs.Spelling as bytes_of
+use Rattle.class_tree.specs.WellFormed.{is_well_formed}
 use Rattle.classfile_items.specs.Reading.{u1, u2, u4, s4, u8, s8, raw, many, counted}
 use Rattle.classfile_code.specs.FrameReading.{type_at, frame_at}
 use Rattle.link_versions.specs.Classes.{first_version, version_at, version_count, class_has}
@@ -29,6 +31,11 @@ use Rattle.type_frames.specs.RulesOfStack.{stack_rule}
 unfoldable pub reading : Unit {0}
 unfolding u1 u2 u4 s4 u8 s8 raw many counted type_at frame_at unit_at unit_bytes form_at bytes_of.u2
 reading = tt
+
+-- class files that rules make
+unfoldable pub writing : Unit {0}
+unfolding code_spelling.s4 bytes_of.u4 bytes_of.u8 bytes_of.counted is_well_formed
+writing = tt
 
 unfoldable pub describing : Unit {0}
 unfolding class_end dimensions split_class split_dimensions read_class read_element read_type read_field read_result read_method
@@ -56,5 +63,5 @@ unfolding digits int_wrap utf16_chars lib.Utf8.encode report_text printed
 printing = tt
 
 unfoldable pub computing : Unit {0}
-unfolding opening reading describing declaring resolving selecting checking printing
+unfolding opening reading writing describing declaring resolving selecting checking printing
 computing = tt

@@ -46,3 +46,6 @@ pub mod BytesOfAMethod
 pub mod MethodsCompared
 pub mod StatusesSeen
 pub mod MadePrintsLast
+pub mod OrderOfRefusals
+pub mod RefusedRedefinitionChangesNothing
+pub mod EntryRuleIsNotStacked

@@ -12,14 +12,12 @@ use Rattle.agent_types.specs.declared.agent.AgentKind.TheVariants.{Native}
 use Rattle.agent_types.specs.declared.rule.Edit.TheVariants.{Constant}
 use Rattle.agent_types.specs.declared.call.Call.TheVariants.{AddCapabilities, SetEventNotificationMode, SetBreakpoint, UseRules, RetransformClasses}
 use Rattle.machine_state.specs.Jobs.{Job}
-use Rattle.machine_state.specs.Versions.{Turns}
 use Rattle.machine_steps.specs.World.{World}
-use Rattle.machine_rows.specs.Rows.{job_of, thread, IsRow}
-use Rattle.machine_rows.specs.AgentCalls.{refuses_of, answers_of}
+use Rattle.machine_rows.specs.Rows.{job_of, world_of, thread, IsRow}
 
--- a job with an agent, and what the agent's calls and its rules do
-abbrev pub with_agent : agent_type.Agent → Turns → Job → World
-with_agent agent turns job = let whole = record job { agents = agent ∷ [] } in record { job = whole; turns = turns; refuses = refuses_of; answers = answers_of whole turns }
+-- a job with an agent
+abbrev pub with_agent : agent_type.Agent → Job → World
+with_agent agent job = world_of (record job { agents = agent ∷ [] })
 
 -- ---- retransform while running
 
@@ -35,13 +33,6 @@ loop_file =
     0 ∷ 0 ∷ 2 ∷ 0 ∷ 9 ∷ 0 ∷ 5 ∷ 0 ∷ 6 ∷ 0 ∷ 1 ∷ 0 ∷ 7 ∷ 0 ∷ 0 ∷ 0 ∷ 19 ∷ 0 ∷ 0 ∷ 0 ∷ 1 ∷ 0 ∷ 0 ∷ 0 ∷ 7 ∷ 184 ∷ 0 ∷ 11 ∷ 184 ∷ 0 ∷ 11 ∷ 177 ∷
     0 ∷ 0 ∷ 0 ∷ 0 ∷ 0 ∷ 9 ∷ 0 ∷ 8 ∷ 0 ∷ 9 ∷ 0 ∷ 1 ∷ 0 ∷ 7 ∷ 0 ∷ 0 ∷ 0 ∷ 21 ∷ 0 ∷ 2 ∷ 0 ∷ 0 ∷ 0 ∷ 0 ∷ 0 ∷ 9 ∷ 178 ∷ 0 ∷ 17 ∷ 16 ∷ 7 ∷ 182 ∷
     0 ∷ 23 ∷ 177 ∷ 0 ∷ 0 ∷ 0 ∷ 0 ∷ 0 ∷ 0 ∷ []
-
--- `bipush 7` becomes `bipush 9`
-abbrev pub nine : List ℕ → List ℕ
-nine bytes = slice_set bytes 286 9
-
-abbrev pub loop_turns : EnvNo → Name → Name → List ℕ → Option (List ℕ)
-loop_turns env set class bytes = if bytes_eq set (codes "nine") then Some (nine bytes) else None
 
 abbrev pub one : agent_type.Agent
 one = record {
@@ -60,7 +51,7 @@ one = record {
 }
 
 abbrev pub running : World
-running = with_agent one loop_turns (job_of (codes "Loop") (record { name = codes "Loop"; bytes = loop_file } ∷ []) 1000)
+running = with_agent one (job_of (codes "Loop") (record { name = codes "Loop"; bytes = loop_file } ∷ []) 1000)
 
 abbrev pub running_schedule : List Actor
 running_schedule = replicate 6 Vm ++ replicate 22 (thread 1) ++ replicate 2 Vm
@@ -103,7 +94,7 @@ stepper = record {
 }
 
 abbrev pub either : World
-either = with_agent stepper (λ env set class bytes. None) (job_of (codes "Two") (record { name = codes "Two"; bytes = two_file } ∷ []) 1000)
+either = with_agent stepper (job_of (codes "Two") (record { name = codes "Two"; bytes = two_file } ∷ []) 1000)
 
 abbrev pub either_schedule : List Actor
 either_schedule = replicate 4 Vm ++ replicate 15 (thread 1) ++ replicate 7 (thread 2) ++ replicate 2 Vm

@@ -12,7 +12,6 @@ use Rattle.agent_types.specs.declared.call.Call.TheVariants.{AddCapabilities, Se
 use Rattle.machine_steps.specs.World.{World}
 use Rattle.machine_rows.specs.Lines.{lines}
 use Rattle.machine_rows.specs.Rows.{thread, IsRow}
-use Rattle.machine_rows.specs.AgentRows.{loop_turns}
 use Rattle.machine_rows.specs.ChainRows.{with_agents, loop_job}
 
 -- the beginning of `f`
@@ -35,7 +34,7 @@ twice_1 = record {
 }
 
 abbrev pub twice : World
-twice = with_agents (twice_1 ∷ []) loop_turns loop_job
+twice = with_agents (twice_1 ∷ []) loop_job
 
 abbrev pub twice_schedule : List Actor
 twice_schedule = replicate 5 Vm ++ replicate 19 (thread 1) ++ replicate 2 Vm
@@ -88,7 +87,7 @@ clearing_1 = record {
 }
 
 abbrev pub clearing : World
-clearing = with_agents (clearing_1 ∷ []) loop_turns loop_job
+clearing = with_agents (clearing_1 ∷ []) loop_job
 
 abbrev pub clearing_schedule : List Actor
 clearing_schedule = replicate 4 Vm ++ replicate 22 (thread 1) ++ replicate 2 Vm

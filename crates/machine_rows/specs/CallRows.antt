@@ -13,7 +13,6 @@ use Rattle.agent_types.specs.declared.call.Call.TheVariants.{AddCapabilities, Ge
 use Rattle.machine_steps.specs.World.{World}
 use Rattle.machine_rows.specs.Lines.{lines}
 use Rattle.machine_rows.specs.Rows.{thread, agent, IsRow, edges_five}
-use Rattle.machine_rows.specs.AgentRows.{loop_turns}
 use Rattle.machine_rows.specs.ChainRows.{with_agents, loop_job}
 use Rattle.machine_rows.specs.EventRows.{heard, hears}
 
@@ -34,7 +33,7 @@ removed_1 = record {
 }
 
 abbrev pub removed : World
-removed = with_agents (removed_1 ∷ []) loop_turns loop_job
+removed = with_agents (removed_1 ∷ []) loop_job
 
 abbrev pub removed_schedule : List Actor
 removed_schedule = replicate 6 Vm ++ replicate 18 (thread 1) ++ replicate 2 Vm

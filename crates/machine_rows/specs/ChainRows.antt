@@ -11,15 +11,13 @@ use Rattle.agent_types.specs.declared.agent.AgentKind.TheVariants.{Native}
 use Rattle.agent_types.specs.declared.rule.Edit.TheVariants.{Constant}
 use Rattle.agent_types.specs.declared.call.Call.TheVariants.{AddCapabilities, SetEventNotificationMode, SetBreakpoint, UseRules, RetransformClasses, AddTransformer, GetStackTrace}
 use Rattle.machine_state.specs.Jobs.{Job}
-use Rattle.machine_state.specs.Versions.{Turns}
 use Rattle.machine_steps.specs.World.{World}
-use Rattle.machine_rows.specs.Rows.{job_of, thread, IsRow}
-use Rattle.machine_rows.specs.AgentCalls.{refuses_of, answers_of}
-use Rattle.machine_rows.specs.AgentRows.{loop_file, loop_turns}
+use Rattle.machine_rows.specs.Rows.{job_of, world_of, thread, IsRow}
+use Rattle.machine_rows.specs.AgentRows.{loop_file}
 
--- a job with these agents, and what their calls and rules do
-abbrev pub with_agents : List agent_type.Agent → Turns → Job → World
-with_agents agents turns job = let whole = record job { agents = agents } in record { job = whole; turns = turns; refuses = refuses_of; answers = answers_of whole turns }
+-- a job with these agents
+abbrev pub with_agents : List agent_type.Agent → Job → World
+with_agents agents job = world_of (record job { agents = agents })
 
 abbrev pub loop_job : Job
 loop_job = job_of (codes "Loop") (record { name = codes "Loop"; bytes = loop_file } ∷ []) 1000
@@ -38,7 +36,7 @@ hooked_1 = record {
 }
 
 abbrev pub hooked : World
-hooked = with_agents (hooked_1 ∷ []) loop_turns loop_job
+hooked = with_agents (hooked_1 ∷ []) loop_job
 
 abbrev pub hooked_schedule : List Actor
 hooked_schedule = replicate 4 Vm ++ replicate 18 (thread 1) ++ replicate 2 Vm
@@ -74,7 +72,7 @@ incapable_2 = record {
 }
 
 abbrev pub incapable : World
-incapable = with_agents (incapable_1 ∷ incapable_2 ∷ []) loop_turns loop_job
+incapable = with_agents (incapable_1 ∷ incapable_2 ∷ []) loop_job
 
 abbrev pub incapable_schedule : List Actor
 incapable_schedule = replicate 7 Vm ++ replicate 20 (thread 1) ++ replicate 2 Vm
@@ -99,7 +97,7 @@ obsolete_1 = record {
 }
 
 abbrev pub obsolete : World
-obsolete = with_agents (obsolete_1 ∷ []) loop_turns loop_job
+obsolete = with_agents (obsolete_1 ∷ []) loop_job
 
 abbrev pub obsolete_schedule : List Actor
 obsolete_schedule = replicate 6 Vm ++ replicate 25 (thread 1) ++ replicate 2 Vm
@@ -157,7 +155,7 @@ groups_4 = record {
 }
 
 abbrev pub groups : World
-groups = with_agents (groups_1 ∷ groups_2 ∷ groups_3 ∷ groups_4 ∷ []) loop_turns loop_job
+groups = with_agents (groups_1 ∷ groups_2 ∷ groups_3 ∷ groups_4 ∷ []) loop_job
 
 abbrev pub groups_schedule : List Actor
 groups_schedule = replicate 9 Vm ++ replicate 18 (thread 1) ++ replicate 2 Vm

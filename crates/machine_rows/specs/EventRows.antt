@@ -18,7 +18,7 @@ use Rattle.machine_rows.specs.ChainRows.{with_agents}
 -- a program of one class, and an agent without rules
 abbrev pub heard : agent_type.Agent → List ℕ → List ℕ → World
 heard agent name bytes =
-    with_agents (agent ∷ []) (λ env set class bytes. None) (job_of name (record { name = name; bytes = bytes } ∷ []) 1000)
+    with_agents (agent ∷ []) (job_of name (record { name = name; bytes = bytes } ∷ []) 1000)
 
 -- The program examples/programs/Every.java by `javac --release 8 -g:none`.
 abbrev pub every_file : List ℕ

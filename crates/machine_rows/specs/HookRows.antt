@@ -14,7 +14,6 @@ use Rattle.agent_types.specs.declared.call.Call.TheVariants.{AddCapabilities, Se
 use Rattle.machine_state.specs.Jobs.{Job}
 use Rattle.machine_steps.specs.World.{World}
 use Rattle.machine_rows.specs.Rows.{thread, IsRow}
-use Rattle.machine_rows.specs.AgentRows.{loop_turns}
 use Rattle.machine_rows.specs.LimitRows.{with_steps}
 use Rattle.machine_rows.specs.ChainRows.{with_agents, loop_job}
 
@@ -32,11 +31,11 @@ broken_1 = record {
 }
 
 -- the first donor takes the place of the class
-abbrev pub broken_turns : EnvNo → Name → Name → List ℕ → Option (List ℕ)
-broken_turns env set class bytes = if bytes_eq set (codes "bad") then Some (0 ∷ 1 ∷ 2 ∷ []) else None
+abbrev pub broken_job : Job
+broken_job = record loop_job { donors = (0 ∷ 1 ∷ 2 ∷ []) ∷ [] }
 
 abbrev pub broken : World
-broken = with_agents (broken_1 ∷ []) broken_turns loop_job
+broken = with_agents (broken_1 ∷ []) broken_job
 
 abbrev pub broken_schedule : List Actor
 broken_schedule = replicate 4 Vm ++ replicate 3 (thread 1) ++ replicate 2 Vm
@@ -61,7 +60,7 @@ restless_1 = record {
 }
 
 abbrev pub restless : World
-restless = with_agents (restless_1 ∷ []) loop_turns (with_steps 20 loop_job)
+restless = with_agents (restless_1 ∷ []) (with_steps 20 loop_job)
 
 abbrev pub restless_schedule : List Actor
 restless_schedule = replicate 4 Vm ++ replicate 16 (thread 1)

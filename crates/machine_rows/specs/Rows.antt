@@ -1,7 +1,6 @@
 -- Worked rows: class files, and what their runs report.
 use Rattle.std.specs.Prelude.{◌≡◌, ℕ, List, [], ◌∷◌, ◌++◌, Some, None, codes, replicate}
 use Rattle.ti_ids.specs.declared.actor.End.{End}
-use Rattle.ti_codes.specs.declared.error.ErrorCode.TheVariants as errors
 use Rattle.ti_ids.specs.declared.actor.End.TheVariants.{Dead, Stuck}
 use Rattle.machine_steps.specs.Ends.{end}
 use Rattle.machine_steps.specs.Replay.{state}
@@ -10,7 +9,8 @@ use Rattle.machine_steps.specs.Reports.{report}
 use Rattle.ti_ids.specs.declared.actor.Actor.{Actor}
 use Rattle.ti_ids.specs.declared.actor.Actor.TheVariants.{Vm, Thread, Agent}
 use Rattle.machine_state.specs.Jobs.{File, Job}
-use Rattle.machine_steps.specs.World.{World}
+use Rattle.machine_steps.specs.World.{World, world_in}
+use Rattle.tool_answer.specs.JobWorld.{meaning}
 
 -- a job with these files and the limits that stand where none are given, but for the slice
 abbrev pub job_of : List ℕ → List File → ℕ → Job
@@ -22,9 +22,9 @@ job_of main files slice = record {
   limits = record { steps = 1000000; lines = 10000; output = 1048576; heap = 1000000; slice = slice };
 }
 
--- without agents
+-- its world, with the slice that it has
 abbrev pub world_of : Job → World
-world_of job = record { job = job; turns = λ env set class bytes. None; refuses = λ s env call actor. None; answers = λ s env call actor. record { code = errors.None; values = []; acts = [] } }
+world_of job = world_in meaning job
 
 abbrev pub thread : ℕ → Actor
 thread n = Thread (record { 0 = n })

@@ -42,7 +42,7 @@ tags_2 = record {
 }
 
 abbrev pub tags : World
-tags = with_agents (tags_1 ∷ tags_2 ∷ []) (λ env set class bytes. None) add_job
+tags = with_agents (tags_1 ∷ tags_2 ∷ []) add_job
 
 abbrev pub tags_schedule : List Actor
 tags_schedule = replicate 9 Vm ++ replicate 13 (thread 1) ++ replicate 2 (agent 1) ++ replicate 2 Vm

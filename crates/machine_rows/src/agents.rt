@@ -4,6 +4,8 @@ ghost use Rattle.machine_rows.specs.TagRows.{TagsOfEachEnvironment};
 ghost use Rattle.machine_rows.specs.EventRows.{EveryEventHeard};
 ghost use Rattle.machine_rows.specs.MonitorRows.{MonitorsHeard};
 ghost use Rattle.machine_rows.specs.CallRows.{TransformerRemoved, BytesOfAMethod};
+ghost use Rattle.machine_rows.specs.RefusedCallRows.{OrderOfRefusals, RefusedRedefinitionChangesNothing};
+ghost use Rattle.machine_rows.specs.EntryRows.{EntryRuleIsNotStacked};
 
 /// Does nothing, and is there for its contract: programs with an agent that hears of every event, once at least.
 pub fn event_rows()
@@ -30,4 +32,17 @@ pub fn call_rows()
 
     // The bytes of a method, and the status of a class when it is loaded, linked and initialized.
     ensures bytes { BytesOfAMethod }
+{}
+
+/// The same of programs with a call that is refused, and with a rule that puts a call in front of a method.
+pub fn refusal_rows()
+    // The environment's phase, a capability that isn't to be had, an event that there is none of, one that needs a capability; a thread that
+    // isn't there, and an event that isn't set for one thread.
+    ensures order { OrderOfRefusals }
+
+    // Two classes are redefined, of which the second is refused: the first keeps its breakpoint and its code.
+    ensures redefinition { RefusedRedefinitionChangesNothing }
+
+    // The rule is applied to the bytes that were kept, and so once, however often the class is retransformed.
+    ensures entry { EntryRuleIsNotStacked }
 {}

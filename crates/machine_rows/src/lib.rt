@@ -9,7 +9,7 @@ mod refused;
 mod statuses;
 mod words;
 
-pub use agents::{call_rows, event_rows};
+pub use agents::{call_rows, event_rows, refusal_rows};
 pub use computed::{agent_rows, chain_rows, java_rows, limit_rows, worked_rows};
 pub use made::made_rows;
 pub use programs::{java_program_rows, java_thread_rows};

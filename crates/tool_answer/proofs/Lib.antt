@@ -1,0 +1,4 @@
+pub mod OnlyRecords
+pub mod OwnTags
+pub mod Orderly
+pub mod Refused
