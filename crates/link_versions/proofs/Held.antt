@@ -109,6 +109,10 @@ supers_absent es n found = (no_orders (reverse es) n found).upwards
 
 -- ---- versions
 
+pub first_by_version : (classes : List Class) (n : ClassNo) → version_at classes (record { class = n; place = 0 }) ≡ first_version classes n
+unfolding version_at first_version
+first_by_version classes n = refl
+
 pub version_at-some : (es : List Entry) (v : VersionNo) (e : Entry) → numbered (reverse es) v.class.0 ≡ Some e → version_at (classes_of es) v ≡ slice_get (versions_of (kind_of e.kind)) v.place
 unfolding version_at
 version_at-some es v e found = ap (option_and_then (λ c. slice_get (versions_of c.kind) v.place)) (class_at-is es v.class (Some e) found)

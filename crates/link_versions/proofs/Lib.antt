@@ -19,4 +19,5 @@ pub mod Installing
 pub mod ByNumber
 pub mod NumberLaws
 pub mod ArrayEntries
+pub mod Indexed
 mod NewNumbers

@@ -27,11 +27,14 @@ within : {A : Type 0} (p : A → Bool) (xs : List A) → position_or_len p xs �
 within p [] = omega arith
 within p (x ∷ xs) = grind (arith, within p xs)
 
-position-absent : {A : Type 0} (p : A → Bool) (xs : List A) (x : A) → position p xs ≡ None → p x ≡ true → position p (xs ++ x ∷ []) ≡ Some (length xs)
+pub position-absent : {A : Type 0} (p : A → Bool) (xs : List A) (x : A) → position p xs ≡ None → p x ≡ true → position p (xs ++ x ∷ []) ≡ Some (length xs)
 position-absent p xs x none here = grind (arith, nat_tests, position_or_len_push p xs x, within p xs, length-append xs (x ∷ []))
 
-position-other : {A : Type 0} (p : A → Bool) (xs : List A) (x : A) → p x ≡ false → position p (xs ++ x ∷ []) ≡ position p xs
+pub position-other : {A : Type 0} (p : A → Bool) (xs : List A) (x : A) → p x ≡ false → position p (xs ++ x ∷ []) ≡ position p xs
 position-other p xs x other = grind (arith, nat_tests, position_or_len_push p xs x, within p xs, length-append xs (x ∷ []))
+
+pub position-there : {A : Type 0} (p : A → Bool) (xs : List A) (x : A) (i : ℕ) → position p xs ≡ Some i → position p (xs ++ x ∷ []) ≡ Some i
+position-there p xs x i there = grind (arith, nat_tests, position_or_len_push p xs x, within p xs, length-append xs (x ∷ []))
 
 -- ---- numbers
 

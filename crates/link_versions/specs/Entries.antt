@@ -1,10 +1,11 @@
 -- What the entries of the table say, the first class first, and what they keep.
-use Rattle.std.specs.Prelude.{◌≡◌, ℕ, zero, suc, Bool, List, [], ◌∷◌, ◌++◌, map, reverse, length, bytes_eq, Option, IfSome, IsTrue, All}
+use Rattle.std.specs.Prelude.{◌≡◌, ℕ, zero, suc, Bool, List, [], ◌∷◌, ◌++◌, map, reverse, length, position, bytes_eq, Option, IfSome, IsTrue, All}
 use Rattle.std.specs.List.{AllByRecursion}
 use Rattle.std.specs.Global.{Vec}
 use Rattle.jv_names.specs.Names.{Name}
 use Rattle.class_code.specs.declared.instr.Instr.{Instr}
 use Rattle.class_code.specs.Listing.{IsRising}
+use Rattle.class_tree.specs.Tree.{is_named}
 use Rattle.class_tree.specs.WellFormed.{is_well_formed}
 use Rattle.link_versions.specs.declared.class.Entry.{Entry}
 use Rattle.link_versions.specs.declared.class.EntryKind.{EntryKind}
@@ -13,6 +14,7 @@ use Rattle.ti_ids.specs.declared.state.InitState.{InitState}
 use Rattle.link_versions.specs.declared.class.Version.{Version}
 use Rattle.link_versions.specs.Classes.{Class, Kind, OfFile, OfArray}
 use Rattle.link_versions.specs.Orders.{lookup_order, superclasses}
+use Rattle.link_versions.specs.MemberIndexes.{found_in}
 use Rattle.link_versions.specs.ReadyCode.{ready_code}
 use Rattle.link_versions.specs.Changes.{IsLawful}
 
@@ -34,11 +36,13 @@ classes_of entries = map class_of (reverse entries)
 abbrev pub RisesIfThere : Option (List (ℕ × Instr)) → Type 0
 RisesIfThere code = IfSome code IsRising
 
--- A version is well-formed, and its codes are those of its methods.
+-- A version is well-formed, its codes are those of its methods, and its indexes find the first member of a name and a descriptor.
 pub record IsReady (v : Version) : Type 0 where
   pub well_formed : IsTrue (is_well_formed v.tree)
   pub codes : v.codes ≡ map (ready_code v.tree.pool) v.tree.methods
   pub rising : All RisesIfThere v.codes
+  pub fields : (name desc : Name) → found_in v.fields name desc ≡ position (is_named v.tree.pool name desc) v.tree.fields
+  pub methods : (name desc : Name) → found_in v.methods name desc ≡ position (is_named v.tree.pool name desc) v.tree.methods
 
 abbrev pub AreReady : EntryKind → Type 0
 AreReady (entry_kinds.File versions) = AllByRecursion IsReady versions

@@ -9,4 +9,5 @@ pub mod Laws
 pub mod Entries
 pub mod Concrete
 pub mod Collecting
+pub mod MemberIndexes
 pub mod TestTrees

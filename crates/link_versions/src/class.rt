@@ -2,6 +2,7 @@ ghost use Rattle.std.specs.Prelude.{◌≡◌, length, OnOk, OnErr};
 ghost use Rattle.link_versions.specs.Classes.{versions_of};
 ghost use Rattle.link_versions.specs.Entries.{kind_of, with_added, IsFileEntry};
 
+use crate::member_index::MemberIndex;
 use class_code::Instr;
 use class_tree::ClassFile;
 use jv_names::Units;
@@ -26,10 +27,13 @@ pub enum Element {
 pub(crate) type Instrs = Items<(u16, Instr)>;
 
 /// A version of a class, with its methods' code made ready: `codes` has an entry for each method, in the order of the file.
+/// `fields` and `methods` find the places of its members.
 #[derive(Drop)]
 pub(crate) struct Version {
     pub(crate) tree: ClassFile,
     pub(crate) codes: Items<Option<Instrs>>,
+    pub(crate) fields: MemberIndex,
+    pub(crate) methods: MemberIndex,
 }
 
 /// What a class is.

@@ -1,8 +1,7 @@
 //! A class by its number, and what it declares.
-ghost use Rattle.std.specs.Prelude.{◌≡◌, reverse, option_copied, option_map, position, slice_get, IfSome};
+ghost use Rattle.std.specs.Prelude.{◌≡◌, reverse, option_copied, option_map, slice_get, IfSome};
 ghost use Rattle.std.specs.Option.{option_and_then};
 ghost use Rattle.class_code.specs.Listing.{IsRising};
-ghost use Rattle.class_tree.specs.Tree.{is_named as has_names};
 ghost use Rattle.link_versions.specs.Classes.{numbered, version_at, version_count as count_of_versions, first_version as first_of_class, class_has as class_flag};
 ghost use Rattle.link_versions.specs.Orders.{lookup_order, superclasses};
 ghost use Rattle.link_versions.specs.Members.{declared_field as field_in, declared_method as method_in, method_name as name_of, method_desc as desc_of, method_has as method_flag, declared_virtual as virtual_in};
@@ -99,22 +98,14 @@ pub(crate) fn class_has(entries: &Table, flag: Flag, class: ClassNo) -> bool
     }
 }
 
-/// The place of the field of this name and descriptor, of which a class has 65535 at most.
-fn field_place(tree: &ClassFile, name: &Units, desc: &Units) -> Option<u32>
-    ensures { result ≡ position (has_names tree.now.pool name.now desc.now) tree.now.fields }
+/// The first version of a class as it is held.
+#[tactic(auto, using(crate::proofs::Held::first_by_version))]
+fn first_held(entries: &Table, class: ClassNo) -> Option<&Version>
+    requires { IsTable entries.now }
+    ensures tree { option_map (λ v. v.now.tree) result ≡ first_of_class (classes_of entries.now) class }
+    ensures ready { IfSome result (λ v. IsReady v.now) }
 {
-    let place = tree.field_at(name, desc)?;
-    let _ = &tree.fields;
-    Some(place as u32)
-}
-
-/// The place of the method of this name and descriptor, of which a class has 65535 at most.
-fn method_place(tree: &ClassFile, name: &Units, desc: &Units) -> Option<u32>
-    ensures { result ≡ position (has_names tree.now.pool name.now desc.now) tree.now.methods }
-{
-    let place = tree.method_at(name, desc)?;
-    let _ = &tree.methods;
-    Some(place as u32)
+    held_version(entries, VersionNo { class, place: 0 })
 }
 
 /// The field that a class declares.
@@ -125,9 +116,10 @@ pub(crate) fn declared_field(
     desc: &Units,
     class: ClassNo,
 ) -> Option<FieldNo>
+    requires { IsTable entries.now }
     ensures { result ≡ field_in (classes_of entries.now) name.now desc.now class }
 {
-    let place = field_place(first_version(entries, class)?, name, desc)?;
+    let place = first_held(entries, class)?.fields.find(name, desc)?;
     Some(FieldNo { class, place })
 }
 
@@ -142,7 +134,7 @@ pub(crate) fn declared_method(
     requires { IsTable entries.now }
     ensures { result ≡ method_in (classes_of entries.now) name.now desc.now class }
 {
-    let place = method_place(first_version(entries, class)?, name, desc)?;
+    let place = first_held(entries, class)?.methods.find(name, desc)?;
     Some(MethodNo { class, place })
 }
 

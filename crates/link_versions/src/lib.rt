@@ -8,6 +8,7 @@ mod entries;
 mod entry_table;
 mod fault;
 mod laws;
+mod member_index;
 mod method;
 mod order;
 mod subtype;

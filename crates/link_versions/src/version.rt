@@ -1,12 +1,15 @@
 //! Versions of classes: the code of each method, decoded once and made ready for running.
-ghost use Rattle.std.specs.Prelude.{◌≡◌, ◌<◌, ◌^◌, ℤ, length, map, Option, Some, IsSome, IfOk, option_copied, All, IfSome};
+ghost use Rattle.std.specs.Prelude.{◌≡◌, ◌<◌, ◌^◌, ℤ, length, map, Option, Some, IsSome, IfOk, option_copied, All, IfSome, position};
+ghost use Rattle.jv_names.specs.Names.{Name};
+ghost use Rattle.link_versions.specs.MemberIndexes.{found_in};
 ghost use Rattle.class_code.specs.CodeReading.{list_of};
 ghost use Rattle.class_code.specs.Listing.{IsRising};
-ghost use Rattle.class_tree.specs.Tree.{entry_at};
+ghost use Rattle.class_tree.specs.Tree.{entry_at, is_named as has_names};
 ghost use Rattle.link_versions.specs.ReadyCode.{int_of, long_of, ready, ready_list as made_ready, ready_code as code_ready, code_named, IsCoded};
 ghost use Rattle.link_versions.specs.Entries.{IsReady, RisesIfThere};
 
 use crate::class::{Instrs, Version};
+use crate::member_index::MemberIndex;
 use class_code::{CodeFault, Instr, PoolOp, decode};
 use class_tree::{ClassFile, Const, Member};
 use jv_names::Units;
@@ -119,6 +122,20 @@ fn ready_codes(alloc: Global, tree: &ClassFile) -> Result<Items<Option<Instrs>>,
     Ok(codes)
 }
 
+/// The index of a class's fields, of which it has 65535 at most.
+fn indexed_fields(alloc: Global, tree: &ClassFile) -> Result<MemberIndex, AllocError>
+    ensures { IfOk result (λ index. (n d : Name) → found_in index n d ≡ position (has_names tree.now.pool n d) tree.now.fields) }
+{
+    MemberIndex::new(alloc, tree, tree.fields.as_slice())
+}
+
+/// The index of a class's methods, of which it has 65535 at most.
+fn indexed_methods(alloc: Global, tree: &ClassFile) -> Result<MemberIndex, AllocError>
+    ensures { IfOk result (λ index. (n d : Name) → found_in index n d ≡ position (has_names tree.now.pool n d) tree.now.methods) }
+{
+    MemberIndex::new(alloc, tree, tree.methods.as_slice())
+}
+
 impl Version {
     /// The version of a tree.
     pub(crate) fn new(alloc: Global, tree: ClassFile) -> Result<Version, AllocError>
@@ -126,7 +143,14 @@ impl Version {
         ensures ready { IfOk result IsReady }
     {
         let codes = ready_codes(alloc, &tree)?;
-        Ok(Version { tree, codes })
+        let fields = indexed_fields(alloc, &tree)?;
+        let methods = indexed_methods(alloc, &tree)?;
+        Ok(Version {
+            tree,
+            codes,
+            fields,
+            methods,
+        })
     }
 
     /// The code of the method of this name and this descriptor.
@@ -136,8 +160,8 @@ impl Version {
         ensures code { option_copied result ≡ code_named self.now.tree (Some name.now) (Some desc.now) }
         ensures rising { IfSome result (λ list. IsRising list.now) }
     {
-        let place = self.tree.method_at(name, desc)?;
-        match self.codes.get(place)? {
+        let place = self.methods.find(name, desc)?;
+        match self.codes.get(place as usize)? {
             Some(list) => Some(list.as_slice()),
             None => None,
         }

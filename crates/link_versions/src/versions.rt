@@ -48,7 +48,7 @@ impl Classes {
     /// The instructions of a method in a version, made ready for running, each with its offset in bytes.
     ///
     /// There are none where the method is abstract, where it is not of the version's class, and where the version or the method is
-    /// not there. The time is linear in the number of the class's methods.
+    /// not there. It takes the same time for every count of methods.
     pub fn code(&self, version: VersionNo, method: MethodNo) -> Option<&[(u16, Instr)]>
         ensures code { option_copied result ≡ code_in self.now version method }
 
