@@ -1,5 +1,5 @@
 -- What holds of each act of a call: of the records of turns, of those of versions, and of those that other calls make.
-use Rattle.std.proofs.Common.{◌≡◌, ◌⊎◌, inl, inr, ℕ, ◌+◌, Bool, List, [], ◌∷◌, ◌++◌, length, map, Option, Some, None, refl}
+use Rattle.std.proofs.Common.{ℕ, ◌+◌, Bool, List, [], ◌∷◌, ◌++◌, length, map, Option, Some, None}
 use Rattle.std.specs.List.{AllByRecursion}
 use Rattle.jv_names.specs.Names.{Name}
 use Rattle.ti_ids.specs.declared.number.EnvNo.{EnvNo}
@@ -19,7 +19,7 @@ use Rattle.machine_steps.specs.World.{unsliced}
 use Rattle.tool_answer.specs.Redefining.{Outcome, Replacing, unless_refused, refusal_at, notes_at, replaces_from, replaces, with_donors, retransforming}
 use Rattle.tool_answer.specs.Answers.{answer_of, records_of}
 use Rattle.tool_answer.specs.JobWorld.{rules_turn}
-use Rattle.tool_answer.specs.Laws.{CallsOnlyRecord, AllOrNone, Installs, Refuses, IsTurn}
+use Rattle.tool_answer.specs.Laws.{CallsOnlyRecord}
 
 -- ---- of records
 
@@ -79,28 +79,3 @@ module _ (job : Job) (turns : Turns) (s : State) (actor : Actor) where
 
 pub calls_only_record : CallsOnlyRecord
 calls_only_record job s env call actor = answer_noted (unsliced job) (rules_turn (unsliced job)) s actor env call
-
--- ---- a class call makes a version of each of its classes, or of none
-
-module _ (job : Job) (turns : Turns) (s : State) (actor : Actor) where
-  abbrev Ends : List Record → Outcome → Type 0
-  Ends made o = Installs made o ⊎ Refuses job turns s actor o
-
-  is_turn : OfTurns IsTurn
-  is_turn env class set k n has_changed = tt
-
-  ends_or : (r : Replacing) (made : List Record) (refusal : Option ErrorCode) (acts : List Act) (otherwise : Outcome)
-      → refusal_at job turns s actor r ≡ refusal → AllByRecursion IsTurn acts → Ends made otherwise → Ends made (unless_refused refusal acts otherwise)
-  ends_or r made (Some code) acts otherwise is all more = inr (record { at = r; refusal = is; are_turns = all })
-  ends_or r made None acts otherwise is all more = more
-
-  ends_from : (acts : List Act) (made : List Record) (rs : List Replacing) → AllByRecursion IsTurn acts → Ends made (replaces_from job turns s actor acts made rs)
-  ends_from acts made [] all = inl (record { turns = acts; are_turns = all; code = refl; acts = refl })
-  ends_from acts made (r ∷ rs) all =
-      let behind = acts ++ notes_at job turns s actor r in
-      let all_behind = behind_noted IsTurn job turns s actor is_turn acts r all in
-      ends_or r made (refusal_at job turns s actor r) behind (replaces_from job turns s actor behind made rs) refl all_behind
-      (ends_from behind made rs all_behind)
-
-pub all_or_none : AllOrNone
-all_or_none job turns s actor rs = ends_from job turns s actor [] (map (λ r. r.makes) rs) rs tt

@@ -1,18 +1,15 @@
 -- A refused call does nothing, and a retransformation asks those alone that are capable of it.
-use Rattle.std.proofs.Common.{◌≡◌, ◌≤◌, ℕ, Bool, true, false, cond, List, [], ◌∷◌, Option, Some, None, refl, sym, ap, ◌∙◌}
-use Rattle.std.specs.Prelude.{filter, nat_le}
+use Rattle.std.proofs.Common.{◌≡◌, ◌≤◌, Bool, true, false, cond, List, [], ◌∷◌, Option, Some, None, refl, sym, ap, ◌∙◌}
+use Rattle.std.specs.Prelude.{nat_le}
 use Rattle.std.specs.List.{AllByRecursion}
 use Rattle.std.proofs.lemmas.Bool.{leb-true}
-use Rattle.ti_ids.specs.declared.actor.Actor.{Actor}
 use Rattle.ti_codes.specs.declared.error.ErrorCode.{ErrorCode}
-use Rattle.jv_names.specs.Names.{Name}
 use Rattle.transform_chain.specs.declared.active.Active.{Active}
 use Rattle.transform_chain.specs.declared.folded.Folded.{Folded}
 use Rattle.transform_chain.specs.Groups.{from_group, up_to_group}
-use Rattle.transform_chain.specs.Turns.{Does, fold_from, folded, turns_told}
-use Rattle.machine_state.specs.Acts.{State}
-use Rattle.machine_steps.specs.World.{World, Answer}
-use Rattle.machine_steps.specs.Calls.{NextCall, refusal_of, answer_to, refused, taken}
+use Rattle.transform_chain.specs.Turns.{Does, folded, turns_told}
+use Rattle.machine_steps.specs.World.{Answer}
+use Rattle.machine_steps.specs.Calls.{refusal_of, refused, taken}
 use Rattle.tool_answer.specs.Laws.{RefusedDoesNothing, AsksCapable}
 
 by_refusal : (refusal : Option ErrorCode) (answer : Answer) (code : ErrorCode) → refusal ≡ Some code

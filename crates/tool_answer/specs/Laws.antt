@@ -1,5 +1,5 @@
 -- The laws of tool calls.
-use Rattle.std.specs.Prelude.{◌≡◌, ◌≤◌, ◌⊎◌, ℕ, true, List, ◌++◌, map, Some}
+use Rattle.std.specs.Prelude.{◌≡◌, ◌≤◌, ◌⊎◌, ℕ, true, List, [], ◌∷◌, ◌++◌, map, flat_map, Some, None}
 use Rattle.std.specs.List.{AllByRecursion}
 use Rattle.ti_ids.specs.declared.number.EnvNo.{EnvNo}
 use Rattle.ti_ids.specs.declared.actor.Actor.{Actor}
@@ -12,14 +12,14 @@ use Rattle.transform_chain.specs.declared.active.Active.{Active}
 use Rattle.transform_chain.specs.Groups.{from_group}
 use Rattle.transform_chain.specs.Turns.{Does, fold_from}
 use Rattle.machine_state.specs.Jobs.{Job}
-use Rattle.machine_state.specs.Trace.{Record, Turned, Tagged}
+use Rattle.machine_state.specs.Trace.{Tagged}
 use Rattle.machine_state.specs.Versions.{Turns}
 use Rattle.machine_state.specs.Bytes.{HasBytes}
 use Rattle.machine_state.specs.Acts.{State, Act, Notes}
 use Rattle.machine_steps.specs.World.{World}
 use Rattle.machine_steps.specs.Calls.{NextCall, refusal_of, answer_to, refused}
 use Rattle.machine_steps.specs.Reachable.{CallsRecord, IsOrderly}
-use Rattle.tool_answer.specs.Redefining.{Outcome, Replacing, refusal_at, replaces}
+use Rattle.tool_answer.specs.Redefining.{Outcome, Replacing, refusal_at, notes_at, replaces}
 use Rattle.tool_answer.specs.Answers.{calls_answer}
 use Rattle.tool_answer.specs.JobWorld.{job_world}
 
@@ -39,28 +39,35 @@ pub record AsksCapable : Type 0 where
   pub alone : (class : Name) (ts : List (Active Does)) (bytes : List ℕ) → fold_from class 3 ts bytes ≡ fold_from class 3 (from_group 3 ts) bytes
   pub capable : (ts : List (Active Does)) → AllByRecursion (λ t. 3 ≤ t.group) (from_group 3 ts)
 
--- an act is the record of a turn
-abbrev pub IsTurn : Act → Type 0
-IsTurn (Notes (Turned env class set k n has_changed)) = Unit {0}
-IsTurn a = ⊥
+module _ (job : Job) (turns : Turns) (s : State) (actor : Actor) where
+  -- none of these is refused
+  abbrev pub ArePassed : List Replacing → Type 0
+  ArePassed rs = AllByRecursion (λ r. refusal_at job turns s actor r ≡ None) rs
 
--- all is done: behind the records of turns stand all of these
-pub record Installs (makes : List Record) (o : Outcome) : Type 0 where
-  pub turns : List Act
-  pub are_turns : AllByRecursion IsTurn turns
-  pub code : o.code ≡ errors.None
-  pub acts : o.acts ≡ turns ++ map Notes makes
+  -- the records of the turns at these, and of no others
+  abbrev pub turns_at : List Replacing → List Act
+  turns_at rs = flat_map (notes_at job turns s actor) rs
 
--- one of the classes is refused: there are records of turns alone
-pub record Refuses (job : Job) (turns : Turns) (s : State) (actor : Actor) (o : Outcome) : Type 0 where
-  pub at : Replacing
-  pub refusal : refusal_at job turns s actor at ≡ Some o.code
-  pub are_turns : AllByRecursion IsTurn o.acts
+  -- none is refused, and all is done: behind the turns at all of them stand the records of their versions
+  pub record Installs (rs : List Replacing) (o : Outcome) : Type 0 where
+    pub passed : ArePassed rs
+    pub code : o.code ≡ errors.None
+    pub acts : o.acts ≡ turns_at rs ++ map Notes (map (λ r. r.makes) rs)
+
+  -- one is the first that is refused: there are the turns up to it, and nothing else
+  pub record Refuses (rs : List Replacing) (o : Outcome) : Type 0 where
+    pub before : List Replacing
+    pub at : Replacing
+    pub rest : List Replacing
+    pub parts : rs ≡ before ++ at ∷ rest
+    pub passed : ArePassed before
+    pub refusal : refusal_at job turns s actor at ≡ Some o.code
+    pub acts : o.acts ≡ turns_at (before ++ at ∷ [])
 
 -- A class call makes a version of each of its classes, or of none.
 abbrev pub AllOrNone : Type 0
 AllOrNone = (job : Job) (turns : Turns) (s : State) (actor : Actor) (rs : List Replacing)
-    → let o = replaces job turns s actor rs in Installs (map (λ r. r.makes) rs) o ⊎ Refuses job turns s actor o
+    → let o = replaces job turns s actor rs in Installs job turns s actor rs o ⊎ Refuses job turns s actor rs o
 
 -- ---- tags
 

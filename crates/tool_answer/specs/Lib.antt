@@ -6,3 +6,4 @@ pub mod Redefining
 pub mod Answers
 pub mod JobWorld
 pub mod Laws
+pub mod CheckRows

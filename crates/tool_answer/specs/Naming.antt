@@ -58,13 +58,13 @@ module _ (job : Job) (turns : Turns) (s : State) where
       option_map_or (λ list. begins list (pos at)) (newest_code class method desc >>= λ code. list_of code.bytes) false
 
   -- the first field of a name
-  abbrev pub named_in : Name → Tree → Option FieldName
-  named_in field t =
+  abbrev pub named_in : Name → Name → Tree → Option FieldName
+  named_in class field t =
       find (λ m. is_text (text_at t.pool m.name) field) t.fields >>= λ m. text_at t.pool m.desc >>= λ desc.
-      Some (record { class = []; name = field; desc = desc })
+      Some (record { class = class; name = field; desc = desc })
 
   abbrev pub field_named : Name → Name → Option FieldName
-  field_named class field = newest_tree class >>= named_in field >>= λ f. Some (record f { class = class })
+  field_named class field = newest_tree class >>= named_in class field
 
 abbrev pub place_at : Name → Name → Name → ℕ → Place
 place_at class method desc at = record { method = record { class = class; name = method; desc = desc }; pc = at }

@@ -1,4 +1,5 @@
-use Rattle.tool_answer.proofs.OnlyRecords.{calls_only_record, all_or_none}
+use Rattle.tool_answer.proofs.OnlyRecords.{calls_only_record}
+use Rattle.tool_answer.proofs.AllOrNone.{all_or_none}
 use Rattle.tool_answer.proofs.OwnTags.{tags_its_own}
 use Rattle.tool_answer.proofs.Orderly.{worlds_are_orderly}
 use Rattle.tool_answer.proofs.Refused.{refused_does_nothing, asks_capable}
