@@ -1,7 +1,8 @@
 #!/bin/sh
 # Seconds that the built program type_check takes to read and check each of the class files that slow_checks.py writes, and seconds in
 # which the JVM links the same class (Linked.java). Each file has at most a mebibyte. A kind is to take less than a second, and never
-# twice as long as the JVM. It runs outside the gate, and is skipped where the program isn't built or python3 or java is missing.
+# twice as long as the JVM; type_check checks each class twice, method by method and as a whole. It runs outside the gate, and is skipped
+# where the program isn't built or python3 or java is missing.
 set -eu
 here=$(cd "$(dirname "$0")" && pwd)
 program=$here/../crates/type_check/out/type_check
