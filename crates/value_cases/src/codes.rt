@@ -6,6 +6,7 @@ use crate::mnemonics::mnemonic;
 use crate::words::{bytes, bytes_text, or_none, put, word};
 use anyhow::{Result, ensure};
 use class_code::{PoolUse, begins_at, decode, instr_at, length_at, pool_use_at};
+use code_index::Code;
 use std::alloc::Global;
 
 /// The bytes of a method's code.
@@ -88,4 +89,19 @@ pub fn begins(alloc: Global, arguments: &[&str]) -> Result<String> {
     ensure!(!bytes.is_empty(), "no bytes");
     let (instr, _) = instr_at(alloc, 0, &bytes)?;
     Ok(begins_at(&[(0, instr)], at).to_string(alloc)?)
+}
+
+/// `entry_at OFFSET BYTES`: the instruction that begins there, and where the next one does, by an index of the code.
+pub fn entry(alloc: Global, arguments: &[&str]) -> Result<String> {
+    let at = word(arguments, 0).parse()?;
+    let code = code(alloc, arguments.get(1..).unwrap_or(&[]))?;
+    let code = Code::new(alloc, decode(alloc, &code)?)?;
+    let Some((instr, next)) = code.entry_at(at) else {
+        return Ok(String::from_str(alloc, "none")?);
+    };
+    let name = mnemonic(instr);
+    match next {
+        Some(next) => Ok(format!(in alloc; "{name}, then {next}")?),
+        None => Ok(format!(in alloc; "{name}, the last")?),
+    }
 }

@@ -38,6 +38,7 @@ fn answer(alloc: Global, function: &str, arguments: &[&str]) -> Result<String> {
         "pool_use_at" => codes::pool_use(alloc, arguments),
         "instr_at" => codes::read_one(alloc, arguments),
         "begins_at" => codes::begins(alloc, arguments),
+        "entry_at" => codes::entry(alloc, arguments),
         "same_actor" => reports::compare_actors(alloc, arguments),
         "report" => reports::print(alloc, arguments),
         "report_with_agents" => reports::print_with_agents(alloc, arguments),
