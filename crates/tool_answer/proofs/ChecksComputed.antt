@@ -15,6 +15,7 @@ pub refused_once : RefusedOnce
 unfolding u1 u2 u4 s4 u8 s8 raw many counted type_at frame_at class_end dimensions split_class split_dimensions read_class read_element read_type read_field read_result read_method field_flaw method_flaw unit_at unit_bytes form_at bytes_of.u2 bytes_of.u4 bytes_of.u8 bytes_of.counted digits lib.Utf8.encode
 refused_once = record {
   none = refl;
+  format = refl;
   version = refl;
   name = refl;
   supers = refl;
@@ -28,6 +29,7 @@ refused_once = record {
 pub refused_in_order : RefusedInOrder
 unfolding u1 u2 u4 s4 u8 s8 raw many counted type_at frame_at class_end dimensions split_class split_dimensions read_class read_element read_type read_field read_result read_method field_flaw method_flaw unit_at unit_bytes form_at bytes_of.u2 bytes_of.u4 bytes_of.u8 bytes_of.counted digits lib.Utf8.encode
 refused_in_order = record {
+  format_first = refl;
   version_first = refl;
   name_first = refl;
   supers_first = refl;

@@ -24,6 +24,10 @@ IsChecked change code = option_and_then (λ t. refusal (check t (class_bytes (ch
 abbrev pub same : Tree → Tree
 same t = t
 
+-- its own name stands nowhere, so that it is no class file
+abbrev pub broken : Tree → Tree
+broken t = record t { this_class = 0 }
+
 abbrev pub newer : Tree → Tree
 newer t = record t { major = 53 }
 
@@ -74,6 +78,7 @@ with_open_methods t = record t { methods = map opened_method t.methods }
 
 pub record RefusedOnce : Type 0 where
   pub none : IsChecked same None
+  pub format : IsChecked broken (Some errors.InvalidClassFormat)
   pub version : IsChecked newer (Some errors.UnsupportedVersion)
   pub name : IsChecked renamed (Some errors.NamesDontMatch)
   pub supers : IsChecked implementing (Some errors.HierarchyChanged)
@@ -85,6 +90,7 @@ pub record RefusedOnce : Type 0 where
 
 -- of two the first in order
 pub record RefusedInOrder : Type 0 where
+  pub format_first : IsChecked (λ t. broken (opened t)) (Some errors.InvalidClassFormat)
   pub version_first : IsChecked (λ t. newer (renamed t)) (Some errors.UnsupportedVersion)
   pub name_first : IsChecked (λ t. renamed (implementing t)) (Some errors.NamesDontMatch)
   pub supers_first : IsChecked (λ t. implementing (opened t)) (Some errors.HierarchyChanged)
